@@ -10,7 +10,7 @@ use lib.Dec.{eqb, leb}
 use base.Stored.{coded-set}
 use Rattle.std.specs.shelf.Lists.{All}
 use Rattle.std.proofs.shelf.Elements.{all-push, all-getD}
-use Rattle.std.proofs.shelf.Lists.{getD-append-left, getD-default}
+use Rattle.std.proofs.shelf.Lists.{getD-append-left, getD-default, getD-past}
 use Rattle.std.proofs.shelf.Ways.{tells}
 use Rattle.std.specs.Results.{isOk}
 use Rattle.std.specs.declared.result.Result.the-variants.{Ok, Err}
@@ -65,32 +65,36 @@ pub program-parts : (p : Program) → Read-parts (p .shape) (block-of p) (shown 
 program-parts p = parts-of (p .shape) (block-of p) (shown p) (reads p)
 
 -- THE FUNCTIONS: as many as the header says, each within the limits
-abbrev pub Kept : ℕ → Unfolded → Type 0
-Kept w f = within-limits (sizes-of w (f .body)) ≡ true
+pub record Kept (w : ℕ) (b : List ℕ) (f : Unfolded) : Type 0 where
+  pub limited : within-limits (sizes-of w (f .body)) ≡ true
+  pub inside : f .start ≤ length b
 
-pub record Found (w n : ℕ) (fs gs : List Unfolded) : Type 0 where
+pub record Found (w : ℕ) (b : List ℕ) (n : ℕ) (fs gs : List Unfolded) : Type 0 where
   pub many : length gs ≡ length fs + n
-  pub all : All (Kept w) gs
+  pub all : All (Kept w b) gs
 
 module _ (k : KindShape) (sensors : ℕ) (b : List ℕ) where
-  function-kept : (fs : List Unfolded) (last : Bool) (at : ℕ) → Gives (Kept (k .width)) (function none-refused k sensors b fs last at)
-  function-kept fs last at =
-      gives-after (Kept (k .width)) (must (part-fits b at) cause.FunctionCount at) _ (λ _ _.
-      gives-after (Kept (k .width)) (must (leb (getD b (at + 2) 0) 8 && (not last || eqb (getD b (at + 2) 0) 0)) cause.Parameters (at + 2)) _ (λ _ _.
-      gives-after (Kept (k .width)) (expr none-refused k sensors fs (take (part-end b at) b) (length b) (at + 3) (getD b (at + 2) 0)) _ (λ e _.
-      gives-after (Kept (k .width)) (must (eqb (e .1) (part-end b at)) cause.ProgramLeftover (e .1)) _ (λ _ _.
-      gives-after (Kept (k .width)) (must (not last || eqb (part-end b at) (length b)) cause.ProgramLeftover (part-end b at)) _ (λ _ _.
-      gives-after (Kept (k .width)) (must (within-limits (sizes-of (k .width) (e .0))) cause.FunctionTooLarge at) _ (λ _ w.
-      gives-ok (Kept (k .width)) _ (must-ok _ _ _ _ w)))))))
+  fits-inside : (at : ℕ) → part-fits b at ≡ true → at + 3 ≤ length b
+  fits-inside at h = grind (arith, tells)
 
-  functions-found : (n at : ℕ) (fs gs : List Unfolded) → All (Kept (k .width)) fs → functions none-refused k sensors b n at fs ≡ Ok gs → Found (k .width) n fs gs
-  functions-found zero at fs gs h e = let s : fs ≡ gs = ok-same fs gs e in record { many = rw (← s) (omega arith); all = subst (All (Kept (k .width))) s h }
+  function-kept : (fs : List Unfolded) (last : Bool) (at : ℕ) → Gives (Kept (k .width) b) (function none-refused k sensors b fs last at)
+  function-kept fs last at =
+      gives-after (Kept (k .width) b) (must (part-fits b at) cause.FunctionCount at) _ (λ _ fit.
+      gives-after (Kept (k .width) b) (must (leb (getD b (at + 2) 0) 8 && (not last || eqb (getD b (at + 2) 0) 0)) cause.Parameters (at + 2)) _ (λ _ _.
+      gives-after (Kept (k .width) b) (expr none-refused k sensors fs (take (part-end b at) b) (length b) (at + 3) (getD b (at + 2) 0)) _ (λ e _.
+      gives-after (Kept (k .width) b) (must (eqb (e .1) (part-end b at)) cause.ProgramLeftover (e .1)) _ (λ _ _.
+      gives-after (Kept (k .width) b) (must (not last || eqb (part-end b at) (length b)) cause.ProgramLeftover (part-end b at)) _ (λ _ _.
+      gives-after (Kept (k .width) b) (must (within-limits (sizes-of (k .width) (e .0))) cause.FunctionTooLarge at) _ (λ _ w.
+      gives-ok (Kept (k .width) b) _ (record { limited = must-ok _ _ _ _ w; inside = fits-inside at (must-ok _ _ _ _ fit) })))))))
+
+  functions-found : (n at : ℕ) (fs gs : List Unfolded) → All (Kept (k .width) b) fs → functions none-refused k sensors b n at fs ≡ Ok gs → Found (k .width) b n fs gs
+  functions-found zero at fs gs h e = let s : fs ≡ gs = ok-same fs gs e in record { many = rw (← s) (omega arith); all = subst (All (Kept (k .width) b)) s h }
   functions-found (suc n) at fs gs h e =
       let f = after-ok (function none-refused k sensors b fs (eqb n 0) at) _ gs e in
-      let r = functions-found n (f .0 .end) (fs ++ (f .0 ∷ [])) gs (all-push (Kept (k .width)) fs (f .0) h (function-kept fs (eqb n 0) at (f .0) (f .1))) (f .2) in
+      let r = functions-found n (f .0 .end) (fs ++ (f .0 ∷ [])) gs (all-push (Kept (k .width) b) fs (f .0) h (function-kept fs (eqb n 0) at (f .0) (f .1))) (f .2) in
       record { many = r .many ∙ rw (length-append fs (f .0 ∷ [])) (omega arith); all = r .all }
 
-pub found : (p : Program) → Found (p .shape .width) (shown p .header .functions) [] (shown p .functions)
+pub found : (p : Program) → Found (p .shape .width) (block-of p) (shown p .header .functions) [] (shown p .functions)
 found p = functions-found (p .shape) (shown p .header .sensors) (block-of p) (shown p .header .functions) 10 [] (shown p .functions) tt (program-parts p .listed)
 
 pub function-count : (p : Program) → length (shown p .functions) ≡ shown p .header .functions
@@ -99,7 +103,7 @@ function-count p = found p .many ∙ omega arith
 pub header-is : (p : Program) → p .outline .header ≡ shown p .header
 header-is p = ap (λ (o : Outline). o .header) (outline-is p)
 
-last-in : (p : Program) → shown p .header .functions - 1 < length (shown p .functions)
+pub last-in : (p : Program) → shown p .header .functions - 1 < length (shown p .functions)
 last-in p =
     let some : 1 ≤ shown p .header .functions = subst (λ h. 1 ≤ h .functions) (header-is p) (p .some) in
     rw (function-count p) (omega arith)
@@ -121,6 +125,17 @@ run-row p n d e =
     ∙ ap (λ (f : Function). f .sizes) (row-is p (shown p .header .functions - 1) d (last-in p))
     ∙ ap (λ (k : KindShape). sizes-of (k .width) (run-of p)) (sym (program-parts p .shaped))
 
+pub rows-shown : (p : Program) → p .outline .functions ≡ table-of (shown p .shape .width) (shown p .functions)
+rows-shown p =
+    ap (λ (o : Outline). o .functions) (outline-is p)
+    ∙ ap (λ (k : KindShape). table-of (k .width) (shown p .functions)) (sym (program-parts p .shaped))
+
+pub row-shown : (p : Program) (n : ℕ) → getD (p .outline .functions) n no-row ≡ getD (table-of (shown p .shape .width) (shown p .functions)) n no-row
+row-shown p n = ap (λ (l : List Function). getD l n no-row) (rows-shown p)
+
+pub row-past : (p : Program) (n : ℕ) → 32 ≤ n → no-row ≡ getD (table-of (shown p .shape .width) (shown p .functions)) n no-row
+row-past p n h = sym (getD-past (p .outline .functions) n no-row (omega (arith, p .rows))) ∙ row-shown p n
+
 pub record Within (w : ℕ) (e : Expr) : Type 0 where
   pub size : sizes-of w e .size ≤ 4096
   pub depth : sizes-of w e .depth ≤ 32
@@ -132,7 +147,7 @@ limits-from w e h = record { size = grind (arith, tells); depth = grind (arith, 
 pub run-within : (p : Program) → Within (shown p .shape .width) (run-of p)
 run-within p =
     let s : shown p .shape ≡ p .shape = program-parts p .shaped in
-    rw s (limits-from (p .shape .width) (run-of p) (all-getD (Kept (p .shape .width)) (shown p .functions) _ no-function (last-in p) (found p .all)))
+    rw s (limits-from (p .shape .width) (run-of p) (all-getD (Kept (p .shape .width) (block-of p)) (shown p .functions) _ no-function (last-in p) (found p .all) .limited))
 
 -- PLACES
 mutual

@@ -17,7 +17,8 @@ use refusal::refused::Refusal;
 // The numbers of a kind.
 fn shape<K: Kind>() -> KindShape
     ensures is { λ r. ⌜ r ≡ shape-of (K·Kind .meaning) ⌝ }
-    ensures some { λ r. ⌜ 1 ≤ r .width ⌝ }
+    ensures wide { λ r. ⌜ 1 ≤ r .width ⌝ }
+    ensures narrow { λ r. ⌜ r .width ≤ 16 ⌝ }
 {
     KindShape {
         number: K::kind_number(),

@@ -88,8 +88,8 @@ impl Expression {
         }
     }
 
-    // How many parts follow; a called function has so many parameters.
-    pub(crate) fn part_count(self, parameters: u8) -> usize
+    /// How many parts follow; a called function has so many parameters.
+    pub fn part_count(self, parameters: u8) -> usize
         ensures { λ r. ⌜ r ≡ part-count parameters self ⌝ }
     {
         match self {

@@ -17,6 +17,8 @@ pub struct Program {
     outline: Outline,
     ghost full: { size block ≡ 1024 },
     ghost within: { length ≤ 1024 },
+    ghost wide: { 1 ≤ shape .width },
+    ghost narrow: { shape .width ≤ 16 },
     ghost some: { 1 ≤ outline .header .functions },
     ghost few: { outline .header .functions ≤ 32 },
     ghost rows: { size (outline .functions) ≡ 32 },

@@ -1,9 +1,11 @@
 ghost use mathlib.Core.Path.{_≡_};
 ghost use Prim.Native.Nat.{_≤_};
-ghost use lib.ListN.{length};
+ghost use lib.ListN.{length, getD};
 ghost use Rattle.program.specs.Measures.{size, depth, weight, places, sites, «sizes-of»};
+ghost use Rattle.program.specs.Sizing.{«table-of», «no-row»};
 ghost use Rattle.program.specs.Programs.{shown, «run-of», «block-of»};
 use super::Program;
+use crate::function::Function;
 use crate::sizes::Sizes;
 
 impl Program {
@@ -34,6 +36,24 @@ impl Program {
         ensures all { λ r. ⌜ r ≡ length (shown (now (self .entry)) .functions) ⌝ }
     {
         self.outline.header.functions
+    }
+
+    /// How many bytes a value of that kind has.
+    pub fn width(&self) -> usize
+        ensures is { λ r. ⌜ r ≡ shown (now (self .entry)) .shape .width ⌝ }
+    {
+        self.shape.width as usize
+    }
+
+    /// What is kept of a function: a free row where there is none of this number.
+    pub fn function(&self, n: u8) -> Function
+        ensures { λ r. ⌜ r ≡ getD (table-of (shown (now (self .entry)) .shape .width) (shown (now (self .entry)) .functions)) n no-row ⌝ }
+    {
+        if n < 32 {
+            self.outline.functions[n as usize]
+        } else {
+            Function::NONE
+        }
     }
 
     /// The block that it was read from.

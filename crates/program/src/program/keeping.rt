@@ -23,6 +23,8 @@ fn padded(bytes: &[u8]) -> [u8; 1024]
 // The program of a block that was read with this outline.
 pub(crate) fn keep(shape: KindShape, outline: Outline, bytes: &[u8]) -> Program
     requires short { ⌜ length (now bytes) ≤ 1024 ⌝ }
+    requires wide { ⌜ 1 ≤ shape .width ⌝ }
+    requires narrow { ⌜ shape .width ≤ 16 ⌝ }
     requires some { ⌜ 1 ≤ outline .header .functions ⌝ }
     requires few { ⌜ outline .header .functions ≤ 32 ⌝ }
     requires rows { ⌜ length (outline .functions) ≡ 32 ⌝ }

@@ -20,6 +20,8 @@ keep-requires g c κs =
     let fits = c .in-Continue-header .ensures tt .fits in
     record {
       short = fits .1;
+      wide = c .shape-shape .ensures .wide;
+      narrow = c .shape-shape .ensures .narrow;
       some = fits .2;
       few = fits .3;
       rows = c .in-Continue-functions .ensures tt .long;
