@@ -1,11 +1,14 @@
 -- What the check found is the verdict. Assumes nothing.
 use mathlib.Core.Path.{_≡_, refl, sym, ap, subst, _∙_}
 use mathlib.Core.List.{List, []}
+use mathlib.Core.Bool.{true, _&&_}
+use lib.Dec.{eqb}
+use borrow.Author.Tests.{eq-eqb}
 use Prim.Native.Nat.{ℕ}
 use Rattle.std.specs.declared.result.Result.the-variants.{Ok, Err}
 use Rattle.refusal.specs.declared.refused.Refusal.{Refusal}
 use Rattle.refusal.specs.Outcomes.{Outcome, after, mapped, In-layer}
-use Rattle.refusal.proofs.Outcomes.{mapped-ok, mapped-err, ok-same, after-is}
+use Rattle.refusal.proofs.Outcomes.{after-ok, mapped-ok, mapped-err, ok-same, after-is}
 use Rattle.kind.specs.Kind.{Meaning}
 use Rattle.program.specs.declared.program.Program.{Program}
 use Rattle.program.specs.declared.outline.Outline.{Outline}
@@ -13,7 +16,7 @@ use Rattle.program.specs.declared.header.Header.{Header}
 use Rattle.program.specs.declared.function.Function.{Function}
 use Rattle.program.specs.declared.shape.KindShape.{KindShape}
 use Rattle.program.specs.Expressions.{Unfolded}
-use Rattle.program.specs.Verdict.{header, functions, Checked, read-block, none-refused, shape-of, refused-by, verdict}
+use Rattle.program.specs.Verdict.{header, functions, Checked, read-block, none-refused, shape-of, refused-by, suits, verdict}
 use Rattle.program.specs.Sizing.{table-of, tabled, outline-of, outlined}
 use Rattle.program.specs.Programs.{block-of, shown}
 use Rattle.program.proofs.Accepted.{keeps-block}
@@ -61,3 +64,12 @@ module _ {V : Type 0} (k : Meaning V) (b : List ℕ) (s : KindShape) (is : s ≡
 
 pub refused-in-layer : {V : Type 0} (k : Meaning V) (b : List ℕ) (x : Refusal) → Err x ≡ verdict k b → In-layer {A = Checked} 1 (Err x)
 refused-in-layer k b x e = subst (In-layer 1) (sym e) (layer-block (refused-by k) (shape-of k) b)
+
+-- an accepted program is for the kind that it was checked for
+pub shown-suits : {V : Type 0} (k : Meaning V) (b : List ℕ) (p : Program) → Ok (shown p) ≡ verdict k b → suits k (shown p) ≡ true
+shown-suits k b p e =
+    let h = after-ok (header (shape-of k) b) _ (shown p) (sym e) in
+    let f = after-ok (functions (refused-by k) (shape-of k) (h .0 .sensors) b (h .0 .functions) 10 []) _ (shown p) (h .2) in
+    let s : shape-of k ≡ shown p .shape = ap (λ (c : Checked). c .shape) (ok-same _ _ (f .2)) in
+    subst (λ (t : KindShape). eqb (t .number) (k .number) && (eqb (t .width) (k .width) && eqb (t .operators) (k .operators)) ≡ true) s
+    (rw (eq-eqb (k .number) (k .number) refl, eq-eqb (k .width) (k .width) refl, eq-eqb (k .operators) (k .operators) refl))

@@ -90,6 +90,10 @@ shape-of k = record { number = k .number; width = k .width; operators = k .opera
 abbrev pub refused-by : {V : Type 0} → Meaning V → List ℕ → Bool
 refused-by k bs = not (isSome (k .read bs))
 
+-- whether a checked program is for a kind: their numbers agree
+abbrev pub suits : {V : Type 0} → Meaning V → Checked → Bool
+suits k c = eqb (c .shape .number) (k .number) && (eqb (c .shape .width) (k .width) && eqb (c .shape .operators) (k .operators))
+
 -- THE VERDICT of a kind
 abbrev pub verdict : {V : Type 0} → Meaning V → List ℕ → Outcome Checked
 verdict k b = read-block (refused-by k) (shape-of k) b

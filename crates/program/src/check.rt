@@ -1,8 +1,10 @@
 ghost use mathlib.Core.Path.{_≡_};
+ghost use mathlib.Core.Bool.{true};
 ghost use Prim.Native.Nat.{_≤_};
 ghost use lib.ListN.{length};
+ghost use Rattle.std.specs.Vec.{made};
 ghost use Rattle.refusal.specs.Outcomes.{mapped, «In-layer»};
-ghost use Rattle.program.specs.Verdict.{verdict, «shape-of», «refused-by»};
+ghost use Rattle.program.specs.Verdict.{verdict, «shape-of», «refused-by», suits as «suits-kind»};
 ghost use Rattle.program.specs.Programs.{shown};
 ghost use Rattle.program.specs.Sizing.{Marked};
 use crate::block::check_functions;
@@ -46,6 +48,7 @@ fn refused_literals<K: Kind>(width: u8, block: &[u8]) -> [bool; 1024]
 pub fn check<K: Kind>(bytes: &[u8]) -> Result<Program, Refusal>
     ensures is { λ r. ⌜ mapped shown r ≡ verdict (K·Kind .meaning) (now (bytes .entry)) ⌝ }
     ensures layer { λ r. ⌜ In-layer 1 r ⌝ }
+    ensures suits { λ r. ⌜ made r (λ p. suits-kind (K·Kind .meaning) (shown p) ≡ true) ⌝ }
 {
     let shape = shape::<K>();
     let header = read_header(shape, bytes)?;
@@ -58,4 +61,13 @@ pub fn check<K: Kind>(bytes: &[u8]) -> Result<Program, Refusal>
         bytes,
     )?;
     Ok(keep(shape, Outline { header, functions }, bytes))
+}
+
+/// Whether a checked program is for the kind. It is, if the check of this kind gave it.
+pub fn suits<K: Kind>(program: &Program) -> bool
+    ensures { λ r. ⌜ r ≡ suits-kind (K·Kind .meaning) (shown (now (program .entry))) ⌝ }
+{
+    program.kind() == K::kind_number()
+        && program.width() == K::value_width()
+        && program.operators() == K::operator_count()
 }

@@ -45,6 +45,13 @@ impl Program {
         self.shape.width as usize
     }
 
+    /// How many operators that kind has.
+    pub fn operators(&self) -> u8
+        ensures { λ r. ⌜ r ≡ shown (now (self .entry)) .shape .operators ⌝ }
+    {
+        self.shape.operators
+    }
+
     /// What is kept of a function: a free row where there is none of this number.
     pub fn function(&self, n: u8) -> Function
         ensures { λ r. ⌜ r ≡ getD (table-of (shown (now (self .entry)) .shape .width) (shown (now (self .entry)) .functions)) n no-row ⌝ }

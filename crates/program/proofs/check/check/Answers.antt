@@ -2,7 +2,7 @@ use mathlib.Core.Path.{_≡_}
 use borrow.Author.Needs.{needs}
 use Rattle.std.proofs.shelf.Results.{err-from-errBy}
 use Rattle.program.specs.Verdict.{refused-by}
-use Rattle.program.proofs.Verdicts.{refused-functions, outlined-is, shown-is, refused-in-layer}
+use Rattle.program.proofs.Verdicts.{refused-functions, outlined-is, shown-is, refused-in-layer, shown-suits}
 use Rattle.program.proofs.check.check.Needs as need
 
 pub returns-in-Break-functions : need.returns-in-Break-functions
@@ -12,7 +12,7 @@ returns-in-Break-functions g c =
     let p = err-from-errBy (c .from-residual-in-Break-functions .result) (c .from-residual-in-Break-functions .ensures .1) in
     let e = refused-functions k b (c .shape-shape .result) (c .shape-shape .ensures .is) _ (c .in-Continue-header .ensures tt .is) _
     (c .in-Break-functions .ensures tt .is (refused-by k) (c .refused-literals-refused .ensures)) in
-    rw (p .1, p .2) (record { is = e; layer = refused-in-layer k b _ e })
+    rw (p .1, p .2) (record { is = e; layer = refused-in-layer k b _ e; suits = tt })
 
 pub keep-requires : need.keep-requires
 keep-requires g c κs =
@@ -35,4 +35,4 @@ returns g c =
     let b = c .args .bytes .now in
     let e = shown-is k b (c .shape-shape .result) (c .shape-shape .ensures .is) _ (c .in-Continue-header .ensures tt .is) _
     (c .in-Continue-functions .ensures tt .is (refused-by k) (c .refused-literals-refused .ensures)) (c .keep .result) (c .keep .ensures .block) (c .keep .ensures .shape) in
-    record { is = e; layer = tt }
+    record { is = e; layer = tt; suits = shown-suits k b (c .keep .result) e }

@@ -1,0 +1,4 @@
+mod Gaps
+mod Cuts
+mod LaidIn
+mod PackedFacts

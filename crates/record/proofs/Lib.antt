@@ -1,0 +1,12 @@
+pub mod Rows
+pub mod Spans
+pub mod Inverse
+pub mod Written
+pub mod Canonical
+pub mod Numbers
+pub mod Grows
+pub mod Headed
+pub mod Places
+pub mod Weights
+pub mod Agreement
+pub mod Listing

@@ -1,0 +1,12 @@
+pub mod Fields
+pub mod Trees
+pub mod Plans
+pub mod Shapes
+pub mod Records
+pub mod Forms
+pub mod Headers
+pub mod Messages
+pub mod Writing
+pub mod Growth
+pub mod Laws
+pub mod Examples
