@@ -1,1 +1,5 @@
 pub mod Isolation
+pub mod Followed
+pub mod Elsewhere
+pub mod Cases
+pub mod Holding

@@ -1,2 +1,5 @@
 pub mod Rules
+pub mod Held
 pub mod Isolation
+pub mod Laws
+pub mod Cases

@@ -9,7 +9,7 @@ use Rattle.std.specs.Options.{valueOr}
 use Rattle.kind.specs.Kind.{Meaning}
 use Rattle.program.specs.Expressions.{Expr, Exprs, literal, variable, bind, operator, fold, exchange, share, branch, call, sensor, link, own, choose, none, then}
 use Rattle.program.specs.Measures.{places, places-all}
-use Rattle.record.specs.Trees.{Entry, Rec, choice, sent, Said, silent, chose, reads, says}
+use Rattle.record.specs.Trees.{Entry, Rec, choice, sent, Tree, Said, silent, chose, reads, says}
 
 -- a value at every node number: one for each number that is own or held, and one for all others
 pub data Spot : Type 0 where
@@ -167,3 +167,16 @@ module _ {V : Type 0} (k : Meaning V) (g : Given V) where
         let x = work e env al p in
         let xs = work-all es env al (p + places e) in
         record { values = x .value ∷ xs .values; records = x .records ++ xs .records }
+
+-- A ROUND: at the outset every sender is aligned, no variable is in sight and places begin at 0
+module _ {V : Type 0} (k : Meaning V) (g : Given V) (e : Expr) where
+  abbrev pub round : Out V
+  round = work k g e [] (λ n. true) 0
+
+  -- its result is the value at the own number
+  abbrev pub result : V
+  result = mine k g (round .value)
+
+  -- the tree that it gives
+  abbrev pub tree : Tree V
+  tree = record { sender = g .number; records = round .records }
