@@ -1,0 +1,3 @@
+//! A stack of rows of values: what a round works on.
+pub mod row_stack;
+pub mod rows;
