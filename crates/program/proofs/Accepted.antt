@@ -1,7 +1,7 @@
 -- A block that is read with a kind's literals refused is read the same with none refused. Assumes nothing.
-use mathlib.Core.Path.{_≡_, refl, sym, ap, subst, _∙_}
+use mathlib.Core.Path.{_≡_, refl, ap, _∙_}
 use mathlib.Core.List.{List, [], _∷_, _++_}
-use mathlib.Core.Bool.{Bool, true, false, not, _&&_, _||_}
+use mathlib.Core.Bool.{Bool, true, not, _&&_, _||_}
 use Prim.Native.Nat.{ℕ, zero, suc, _+_}
 use lib.ListN.{length, getD, take, drop}
 use lib.Dec.{eqb, leb}
@@ -9,14 +9,13 @@ use native.Mathlib.Omega.{arith}
 use Rattle.std.specs.declared.result.Result.the-variants.{Ok, Err}
 use Rattle.refusal.specs.declared.cause.Cause.{Cause}
 use Rattle.refusal.specs.declared.cause.Cause.the-variants as cause
-use Rattle.refusal.specs.Outcomes.{Outcome, refuse, after, must}
+use Rattle.refusal.specs.Outcomes.{Outcome, after, must}
 use Rattle.program.specs.declared.shape.KindShape.{KindShape}
 use Rattle.program.specs.declared.expression.Expression.{Expression}
 use Rattle.program.specs.declared.expression.Expression.the-variants.{Literal, Variable, Let, Operator, Fold, Exchange, Share, If, Call, Sensor, Link, Own, Choose}
 use Rattle.program.specs.Expressions.{Expr, Unfolded}
-use Rattle.program.specs.Measures.{sizes-of}
-use Rattle.program.specs.Reading.{decoded, readable, available, part-count, binds, Parts, called-function, built, parts, expr-by, expr}
-use Rattle.program.specs.Verdict.{header, function, functions, Checked, read-block, none-refused, part-fits, part-end, within-limits}
+use Rattle.program.specs.Reading.{decoded, readable, available, part-count, binds, called-function, parts, expr-by, expr}
+use Rattle.program.specs.Verdict.{header, function, functions, read-block, none-refused, part-fits, part-end}
 
 -- the second gives every result that the first gives
 abbrev pub Keeps : {A : Type 0} → Outcome A → Outcome A → Type 0

@@ -1,20 +1,18 @@
 -- Every refusal of a block is one of the program's layer. Assumes nothing.
-use mathlib.Core.Path.{_≡_, refl}
+use mathlib.Core.Path.{refl}
 use mathlib.Core.List.{List, [], _∷_, _++_}
 use mathlib.Core.Bool.{Bool, true, false, cond, not, _&&_, _||_}
 use Prim.Native.Nat.{ℕ, zero, suc, _+_}
 use lib.ListN.{length, getD, take, drop}
 use lib.Dec.{eqb, ltb, leb}
-use Rattle.std.specs.declared.result.Result.the-variants.{Ok, Err}
 use Rattle.refusal.specs.declared.cause.Cause.the-variants as cause
-use Rattle.refusal.specs.Outcomes.{Outcome, refuse, after, must, In-layer}
+use Rattle.refusal.specs.Outcomes.{Outcome, must, In-layer}
 use Rattle.refusal.proofs.Outcomes.{layer-after, layer-must}
 use Rattle.program.specs.declared.shape.KindShape.{KindShape}
-use Rattle.program.specs.declared.expression.Expression.{Expression}
 use Rattle.program.specs.Expressions.{Expr, Unfolded}
 use Rattle.program.specs.Measures.{sizes-of}
-use Rattle.program.specs.Reading.{number-bytes, coded, decoded, readable, available, part-count, binds, called-function, parts, expr-by, expr}
-use Rattle.program.specs.Verdict.{pair, header, function, functions, read-block, part-fits, part-end, within-limits}
+use Rattle.program.specs.Reading.{number-bytes, coded, decoded, readable, available, part-count, binds, called-function, parts, expr}
+use Rattle.program.specs.Verdict.{header, function, functions, read-block, part-fits, part-end, within-limits}
 
 either-way : {A : Type 0} (t : Bool) (m n : Outcome A) → In-layer 1 m → In-layer 1 n → In-layer 1 (cond t m n)
 either-way true m n h k = h

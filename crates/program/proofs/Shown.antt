@@ -1,9 +1,9 @@
 -- What a checked program in hand stands for: its block is read, and its outline is that of the reading. Assumes nothing.
 use mathlib.Core.Path.{_≡_, refl, sym, ap, subst, _∙_}
-use mathlib.Core.List.{List, [], _∷_, _++_, map, append-assoc}
-use mathlib.Core.Bool.{Bool, true, false, _&&_, _||_, not, Bool-set}
+use mathlib.Core.List.{List, [], _∷_, _++_, map}
+use mathlib.Core.Bool.{Bool, true, _&&_, _||_, not, Bool-set}
 use mathlib.Core.Logic.{∥∥₁-elim}
-use Prim.Native.Nat.{ℕ, zero, suc, _+_, _-_, _≤_, _<_, max}
+use Prim.Native.Nat.{ℕ, zero, suc, _+_, _-_, _≤_, _<_}
 use native.Mathlib.Omega.{arith}
 use lib.ListN.{length, getD, take, replicate, length-map, length-append, List·getD-map}
 use lib.Dec.{eqb, leb}
@@ -14,7 +14,7 @@ use Rattle.std.proofs.shelf.Lists.{getD-append-left, getD-default, getD-past}
 use Rattle.std.proofs.shelf.Ways.{tells}
 use Rattle.std.specs.Results.{isOk}
 use Rattle.std.specs.declared.result.Result.the-variants.{Ok, Err}
-use Rattle.refusal.specs.Outcomes.{Outcome, after, must, mapped}
+use Rattle.refusal.specs.Outcomes.{Outcome, must, mapped}
 use Rattle.refusal.specs.declared.cause.Cause.the-variants as cause
 use Rattle.refusal.proofs.Outcomes.{after-ok, must-ok, mapped-ok, ok-same, Gives, gives-ok, gives-after}
 use Rattle.program.specs.declared.program.Program.{Program}
@@ -25,8 +25,8 @@ use Rattle.program.specs.contracts.outline.Outline.{the-row}
 use Rattle.program.specs.Expressions.{Expr, Exprs, literal, variable, bind, operator, fold, exchange, share, branch, call, sensor, link, own, choose, none, then, Unfolded}
 use Rattle.program.specs.Measures.{size, size-all, places, places-all, sites, sites-all, sizes-of}
 use Rattle.program.specs.Reading.{no-function, expr}
-use Rattle.program.specs.Verdict.{header, function, functions, Checked, run, read-block, none-refused, within-limits, part-fits, part-end}
-use Rattle.program.specs.Sizing.{row, no-row, table-of, outline-of, outlined}
+use Rattle.program.specs.Verdict.{header, function, functions, Checked, read-block, none-refused, within-limits, part-fits, part-end}
+use Rattle.program.specs.Sizing.{row, no-row, table-of, outline-of}
 use Rattle.program.specs.Programs.{block-of, checked-or, shown, run-of}
 
 -- READ

@@ -1,14 +1,13 @@
 -- Sizing by the bytes, without the tree: what the code computes is what the tree has. Assumes nothing.
 use mathlib.Core.Path.{_≡_, refl, sym, ap, subst, _∙_}
-use mathlib.Core.List.{List, [], _∷_, map}
-use mathlib.Core.Bool.{Bool, true, false, cond, not}
+use mathlib.Core.List.{List, [], map}
+use mathlib.Core.Bool.{Bool, true, false, not}
 use Prim.Native.Nat.{ℕ, zero, suc, _+_, _-_, _≤_, _<_}
 use native.Mathlib.Omega.{arith}
 use native.Mathlib.Numerals.{sub-one}
 use lib.ListN.{length, getD, take, drop, List·getD-map, length-map, length-drop}
 use Rattle.std.proofs.shelf.Lists.{drop-all, take-all, take-take, length-take}
 use Rattle.std.proofs.shelf.Parts.{between-is}
-use Rattle.std.specs.declared.result.Result.{Result}
 use Rattle.std.specs.declared.result.Result.the-variants.{Ok, Err}
 use Rattle.refusal.specs.declared.refused.Refusal.{Refusal}
 use Rattle.program.specs.declared.shape.KindShape.{KindShape}
@@ -18,9 +17,9 @@ use Rattle.program.specs.declared.function.Function.{Function}
 use Rattle.refusal.specs.declared.cause.Cause.the-variants as cause
 use Rattle.program.specs.declared.expression.Expression.{Expression}
 use Rattle.program.specs.declared.expression.Expression.the-variants.{Literal, Variable, Let, Operator, Fold, Exchange, Share, If, Call, Sensor, Link, Own, Choose}
-use Rattle.refusal.specs.Outcomes.{Outcome, refuse, after, must, mapped}
+use Rattle.refusal.specs.Outcomes.{Outcome, refuse, after, must}
 use Rattle.refusal.proofs.Outcomes.{after-same, mapped-after}
-use Rattle.program.specs.Expressions.{Expr, Exprs, none, then, Unfolded}
+use Rattle.program.specs.Expressions.{Expr, Exprs, none, Unfolded}
 use Rattle.program.specs.Measures.{sizes-of, size-all, depth-all, weight-all, places-all}
 use Rattle.program.specs.Bounds.{Small, SmallSums}
 use Rattle.program.specs.Reading.{decoded, readable, available, part-count, binds, callee, Parts, arguments, built, no-function, parts, called-function, expr-by, expr}

@@ -1,10 +1,10 @@
 -- The loop over the functions: what the table holds, and what is left to read. Assumes nothing.
-use mathlib.Core.Path.{_≡_, refl, sym, ap, subst, _∙_}
+use mathlib.Core.Path.{_≡_, refl, sym, ap, _∙_}
 use mathlib.Core.List.{List, [], _∷_, _++_, map, append-assoc}
-use mathlib.Core.Bool.{Bool, true, false}
+use mathlib.Core.Bool.{Bool}
 use Prim.Native.Nat.{ℕ, zero, suc, _+_, _-_, _≤_, _<_}
 use native.Mathlib.Omega.{arith}
-use lib.ListN.{length, getD, take, set, replicate, length-map, length-append, length-replicate, length-set, getD-replicate, length-take}
+use lib.ListN.{length, take, set, replicate, length-map, length-append, length-set, getD-replicate, length-take}
 use lib.Seq.{getD-take, getD-set-same, getD-set-other}
 use lib.Dec.{eqb}
 use Rattle.std.proofs.shelf.Lists.{take-at, set-at, map-push}

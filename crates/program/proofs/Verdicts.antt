@@ -7,11 +7,10 @@ use borrow.Author.Tests.{eq-eqb}
 use Prim.Native.Nat.{ℕ}
 use Rattle.std.specs.declared.result.Result.the-variants.{Ok, Err}
 use Rattle.refusal.specs.declared.refused.Refusal.{Refusal}
-use Rattle.refusal.specs.Outcomes.{Outcome, after, mapped, In-layer}
+use Rattle.refusal.specs.Outcomes.{Outcome, after, In-layer}
 use Rattle.refusal.proofs.Outcomes.{after-ok, mapped-ok, mapped-err, ok-same, after-is}
 use Rattle.kind.specs.Kind.{Meaning}
 use Rattle.program.specs.declared.program.Program.{Program}
-use Rattle.program.specs.declared.outline.Outline.{Outline}
 use Rattle.program.specs.declared.header.Header.{Header}
 use Rattle.program.specs.declared.function.Function.{Function}
 use Rattle.program.specs.declared.shape.KindShape.{KindShape}

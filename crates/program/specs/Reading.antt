@@ -1,10 +1,10 @@
 -- How an expression is read from the bytes of a function's part. Assumes nothing.
-use mathlib.Core.List.{List, [], _∷_}
-use mathlib.Core.Bool.{Bool, true, false, cond, _||_, not}
+use mathlib.Core.List.{List}
+use mathlib.Core.Bool.{Bool, true, cond, _||_, not}
 use Prim.Native.Nat.{ℕ, zero, suc, _+_}
 use lib.ListN.{length, getD, take, drop}
 use lib.Dec.{eqb, ltb, leb}
-use Rattle.std.specs.declared.result.Result.the-variants.{Ok, Err}
+use Rattle.std.specs.declared.result.Result.the-variants.{Ok}
 use Rattle.refusal.specs.declared.cause.Cause.the-variants as cause
 use Rattle.refusal.specs.Outcomes.{Outcome, refuse, after, must}
 use Rattle.program.specs.declared.shape.KindShape.{KindShape}

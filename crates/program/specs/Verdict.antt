@@ -1,11 +1,11 @@
 -- The verdict on any bytes: the checked program, or the first refusal. Assumes nothing.
-use mathlib.Core.List.{List, [], _∷_, _++_, map}
-use mathlib.Core.Bool.{Bool, true, false, _&&_, _||_, not}
+use mathlib.Core.List.{List, [], _∷_, _++_}
+use mathlib.Core.Bool.{Bool, false, _&&_, _||_, not}
 use Prim.Native.Nat.{ℕ, zero, suc, _+_, _-_, _*_}
-use lib.ListN.{length, getD, take, replicate}
+use lib.ListN.{length, getD, take}
 use lib.Dec.{eqb, leb}
 use Rattle.std.specs.Options.{isSome}
-use Rattle.std.specs.declared.result.Result.the-variants.{Ok, Err}
+use Rattle.std.specs.declared.result.Result.the-variants.{Ok}
 use Rattle.refusal.specs.declared.cause.Cause.the-variants as cause
 use Rattle.refusal.specs.Outcomes.{Outcome, after, must}
 use Rattle.kind.specs.Kind.{Meaning}

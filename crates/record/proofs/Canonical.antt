@@ -1,27 +1,26 @@
 -- What was read is what is written. Assumes nothing.
 use mathlib.Core.Path.{_≡_, refl, sym, ap, subst, _∙_}
 use mathlib.Core.Logic.{_≢_}
-use mathlib.Core.List.{List, [], _∷_, _++_, append-nil, append-assoc}
+use mathlib.Core.List.{List, [], _∷_, _++_, append-nil}
 use mathlib.Core.Bool.{Bool, true, false, cond, not, _&&_}
 use Prim.Native.Nat.{ℕ, zero, suc, _+_, _-_, _*_, _/_, _%_, _≤_, _<_}
 use native.Mathlib.Omega.{arith}
 use lib.ListN.{length, getD, take, drop, length-append}
 use lib.Seq.{take-all}
 use lib.Dec.{eqb, leb}
-use borrow.Author.Tests.{leb-true, eqb-true, eqb-false, not-true, eq-eqb, ne-eqb}
+use borrow.Author.Tests.{leb-true, eqb-true, eqb-false, not-true}
 use Rattle.std.proofs.shelf.Tests.{and-parts}
-use Rattle.std.specs.declared.option.Option.the-variants.{Some, None}
-use Rattle.std.specs.declared.result.Result.the-variants.{Ok, Err}
+use Rattle.std.specs.declared.result.Result.the-variants.{Ok}
 use Rattle.kind.specs.Kind.{Meaning, Lawful}
-use Rattle.refusal.specs.Outcomes.{Outcome, refuse, after, must, mapped}
+use Rattle.refusal.specs.Outcomes.{after, must}
 use Rattle.record.specs.Fields.{Bytes, byte-at, pair-at, quad-at, part, pair-of, quad-of}
 use Rattle.record.specs.Headers.{version, count-offset, program-offset, sender-offset, header-length, most-bytes, counted, header, written-header}
-use Rattle.record.specs.Shapes.{Shape, choosing, sending, end-at, most-entries, fits, shape, shape-at}
+use Rattle.record.specs.Shapes.{end-at, most-entries, fits, shape, shape-at}
 use Rattle.record.specs.Records.{allowed, behind, entries, judged, record-at}
 use Rattle.record.specs.Trees.{Entry, Rec, choice, sent, Tree, is-first}
 use Rattle.record.specs.Plans.{Plan, nothing, sent-at, choice-at, _⨾_}
 use Rattle.record.specs.Messages.{records, message, alone, behind-records}
-use Rattle.record.specs.Writing.{written-entries, written-record, written-records, written-tree, Rising-entries, no-entry, entry-then, Follows, ended, sends, first, second, both}
+use Rattle.record.specs.Writing.{written-entries, written-record, written-records, Rising-entries, no-entry, entry-then, Follows, ended, sends, first, second, both}
 use Rattle.record.specs.Laws.{Canonical}
 use Rattle.record.specs.declared.record.Body.the-variants as body
 use Rattle.record.proofs.Rows.{behind-grows, behind-is}

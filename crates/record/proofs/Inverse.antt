@@ -1,10 +1,10 @@
 -- What was read, where a value was allowed. Assumes nothing.
-use mathlib.Core.Path.{_≡_, refl, ap}
+use mathlib.Core.Path.{_≡_, ap}
 use Prim.Native.Nat.{ℕ}
 use native.Mathlib.Omega.{arith}
 use Rattle.std.specs.declared.option.Option.{Option}
 use Rattle.std.specs.declared.option.Option.the-variants.{Some, None}
-use Rattle.std.specs.declared.result.Result.the-variants.{Ok, Err}
+use Rattle.std.specs.declared.result.Result.the-variants.{Ok}
 use Rattle.record.specs.Records.{allowed}
 
 pub was-read : {V : Type 0} (p : ℕ) (o : Option V) (v : V) → allowed p o ≡ Ok v → o ≡ Some v

@@ -1,8 +1,8 @@
 -- A listing shows the records that were accepted. Assumes nothing.
-use mathlib.Core.Path.{_≡_, refl, sym, ap, _∙_}
+use mathlib.Core.Path.{_≡_, sym, ap, _∙_}
 use mathlib.Core.Logic.{_≢_}
 use mathlib.Core.List.{List}
-use mathlib.Core.Bool.{Bool, true, false, cond, _&&_}
+use mathlib.Core.Bool.{true, _&&_}
 use Prim.Native.Nat.{ℕ, _+_, _*_, _≤_}
 use native.Mathlib.Omega.{arith}
 use lib.ListN.{length}
@@ -11,12 +11,12 @@ use borrow.Author.Tests.{leb-true, eqb-true, eq-eqb, ne-eqb}
 use Rattle.std.proofs.shelf.Tests.{and-parts}
 use Rattle.std.specs.declared.option.Option.the-variants.{Some}
 use Rattle.std.specs.declared.result.Result.the-variants.{Ok}
-use Rattle.refusal.specs.Outcomes.{Outcome, after, must}
+use Rattle.refusal.specs.Outcomes.{must}
 use Rattle.refusal.proofs.Outcomes.{after-ok, must-ok}
 use Rattle.kind.specs.Kind.{Meaning, Lawful}
 use Rattle.record.specs.Fields.{byte-at, pair-at}
 use Rattle.record.specs.Records.{judged, record-at}
-use Rattle.record.specs.Shapes.{Shape, end-at, most-entries, fits, shape, shape-at, body-at, with-end, next-shape}
+use Rattle.record.specs.Shapes.{end-at, most-entries, fits, shape, shape-at, body-at, with-end, next-shape}
 use Rattle.record.specs.Trees.{Rec}
 use Rattle.record.specs.declared.record.Body.{Body}
 use Rattle.record.specs.declared.record.Body.the-variants as body

@@ -1,18 +1,17 @@
 -- What an accepted record reads at a number. Assumes nothing.
-use mathlib.Core.Path.{_≡_, refl, sym, ap, subst, _∙_}
+use mathlib.Core.Path.{_≡_, ap, _∙_}
 use mathlib.Core.List.{List, [], _∷_}
 use mathlib.Core.Bool.{Bool, true, false, cond, not}
 use Prim.Native.Nat.{ℕ, zero, suc, _+_}
 use lib.Dec.{eqb, leb}
-use Rattle.std.specs.declared.option.Option.{Option}
-use Rattle.std.specs.declared.option.Option.the-variants.{Some, None}
-use Rattle.std.specs.declared.result.Result.the-variants.{Ok, Err}
+use Rattle.std.specs.declared.option.Option.the-variants.{Some}
+use Rattle.std.specs.declared.result.Result.the-variants.{Ok}
 use Rattle.kind.specs.Kind.{Meaning}
-use Rattle.refusal.specs.Outcomes.{after, must}
+use Rattle.refusal.specs.Outcomes.{must}
 use Rattle.record.specs.Fields.{pair-at, part}
 use Rattle.record.specs.Shapes.{sending}
 use Rattle.record.specs.Records.{allowed, entries, judged, bytes-at}
-use Rattle.record.specs.Trees.{Entry, Rec, sent, entry-at}
+use Rattle.record.specs.Trees.{Entry, sent, entry-at}
 use Rattle.record.specs.Forms.{reads-at}
 use Rattle.record.proofs.Inverse.{was-read}
 use Rattle.refusal.proofs.Outcomes.{after-ok}

@@ -1,17 +1,14 @@
 -- Entries one after another. Assumes nothing.
-use mathlib.Core.Path.{_≡_, refl, sym, ap, subst, _∙_}
-use mathlib.Core.List.{List, [], _∷_}
-use mathlib.Core.Bool.{Bool, true, false, cond, not}
+use mathlib.Core.Path.{_≡_, refl, ap, _∙_}
+use mathlib.Core.List.{List, _∷_}
+use mathlib.Core.Bool.{true, false}
 use Prim.Native.Nat.{ℕ, zero, suc, _+_, _-_, _*_, _≤_, _<_}
 use native.Mathlib.Omega.{arith}
-use lib.ListN.{length}
 use lib.Dec.{eqb, leb}
-use Rattle.std.specs.declared.option.Option.{Option}
-use Rattle.std.specs.declared.option.Option.the-variants.{Some, None}
 use Rattle.std.specs.declared.result.Result.the-variants.{Ok, Err}
 use Rattle.kind.specs.Kind.{Meaning}
-use Rattle.refusal.specs.Outcomes.{Outcome, refuse, after, must, mapped}
-use Rattle.record.specs.Fields.{byte-at, pair-at, part}
+use Rattle.refusal.specs.Outcomes.{Outcome, refuse, after, mapped}
+use Rattle.record.specs.Fields.{pair-at, part}
 use Rattle.record.specs.Trees.{Entry}
 use Rattle.record.specs.Records.{allowed, behind, entries, bytes-at}
 use Rattle.refusal.specs.declared.refused.Refusal.{Refusal}

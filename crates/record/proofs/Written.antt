@@ -1,24 +1,23 @@
 -- What was written is read. Assumes nothing.
-use mathlib.Core.Path.{_≡_, refl, sym, ap, subst, _∙_}
+use mathlib.Core.Path.{_≡_, refl, sym, ap, _∙_}
 use mathlib.Core.Logic.{_≢_}
 use mathlib.Core.List.{List, [], _∷_, _++_, append-nil, append-assoc}
-use mathlib.Core.Bool.{Bool, true, false, cond, not, _&&_}
-use Prim.Native.Nat.{ℕ, zero, suc, _+_, _-_, _*_, _/_, _%_, _≤_, _<_}
+use mathlib.Core.Bool.{Bool, true, false}
+use Prim.Native.Nat.{ℕ, suc, _+_, _-_, _*_, _≤_, _<_}
 use native.Mathlib.Omega.{arith}
-use lib.ListN.{length, getD, take, drop, length-append}
+use lib.ListN.{length, getD, length-append}
 use lib.Seq.{take-length}
-use lib.Dec.{eqb, leb}
+use lib.Dec.{eqb}
 use borrow.Author.Tests.{le-leb, eq-eqb, ne-eqb}
-use Rattle.std.specs.declared.option.Option.the-variants.{Some, None}
-use Rattle.std.specs.declared.result.Result.the-variants.{Ok, Err}
+use Rattle.std.specs.declared.option.Option.the-variants.{Some}
+use Rattle.std.specs.declared.result.Result.the-variants.{Ok}
 use Rattle.kind.specs.Kind.{Meaning, Lawful}
-use Rattle.refusal.specs.Outcomes.{Outcome, refuse, after, must, mapped}
-use Rattle.record.specs.Fields.{Bytes, byte-at, pair-at, quad-at, part, pair-of, quad-of}
-use Rattle.record.specs.Headers.{count-offset, program-offset, sender-offset, header-length, most-bytes, counted, header}
-use Rattle.record.specs.Shapes.{Shape, choosing, sending, end-at, most-entries, fits, shape, shape-at}
-use Rattle.record.specs.Records.{allowed, entries, judged, record-at}
+use Rattle.record.specs.Fields.{pair-at, quad-at, part, pair-of}
+use Rattle.record.specs.Headers.{count-offset, program-offset, sender-offset, header-length, most-bytes, counted}
+use Rattle.record.specs.Shapes.{sending, end-at, most-entries, fits, shape-at}
+use Rattle.record.specs.Records.{entries, judged, record-at}
 use Rattle.record.specs.Trees.{Entry, Rec, choice, sent, Tree}
-use Rattle.record.specs.Plans.{Plan, nothing, sent-at, choice-at, _⨾_}
+use Rattle.record.specs.Plans.{Plan}
 use Rattle.record.specs.Messages.{records, message}
 use Rattle.record.specs.Writing.{written-entry, written-entries, written-head, written-record, written-records, written-tree, Rising-entries, no-entry, entry-then, Follows, ended, sends, first, second, both}
 use Rattle.record.specs.declared.record.Body.the-variants as body

@@ -11,7 +11,7 @@ use Rattle.refusal.specs.declared.cause.Cause.the-variants as cause
 use Rattle.kind.specs.declared.number.Number.{Number}
 use Rattle.kind.specs.Numbers.{numbers, nearest}
 use Rattle.program.specs.Expressions.{Expr, literal, variable, share, branch}
-use Rattle.record.specs.Trees.{Tree, Entry, Rec, choice, sent}
+use Rattle.record.specs.Trees.{Tree, Rec, choice, sent}
 use Rattle.record.specs.Plans.{due}
 use Rattle.record.specs.Messages.{message}
 

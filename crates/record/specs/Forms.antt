@@ -1,10 +1,9 @@
 -- What a record by its shape has, and how it reads at a number. Assumes nothing.
 use mathlib.Core.Path.{_≡_}
-use mathlib.Core.List.{List}
 use Prim.Native.Nat.{ℕ, _+_, _≤_}
 use lib.ListN.{length}
 use Rattle.std.specs.declared.option.Option.{Option}
-use Rattle.std.specs.declared.option.Option.the-variants.{Some, None}
+use Rattle.std.specs.declared.option.Option.the-variants.{None}
 use Rattle.kind.specs.Kind.{Meaning}
 use Rattle.record.specs.Shapes.{Shape, choosing, sending}
 use Rattle.record.specs.Records.{behind, bytes-at}

@@ -1,10 +1,10 @@
 -- Reading a message. Assumes nothing.
 use mathlib.Core.List.{List, [], _∷_, _++_}
-use mathlib.Core.Bool.{Bool, true, false, cond}
+use mathlib.Core.Bool.{cond}
 use Prim.Native.Nat.{ℕ, _+_}
 use lib.ListN.{length}
 use lib.Dec.{eqb}
-use Rattle.std.specs.declared.result.Result.the-variants.{Ok, Err}
+use Rattle.std.specs.declared.result.Result.the-variants.{Ok}
 use Rattle.refusal.specs.Outcomes.{Outcome, after, must}
 use Rattle.refusal.specs.declared.cause.Cause.the-variants as cause
 use Rattle.kind.specs.Kind.{Meaning}

@@ -1,8 +1,8 @@
 ghost use mathlib.Core.Path.{_≡_};
-ghost use mathlib.Core.List.{List, [], _∷_, _++_};
-ghost use Prim.Native.Nat.{ℕ, _+_, _*_, _/_, _%_, _^_, _<_, _≤_};
+ghost use mathlib.Core.List.{[], _∷_};
+ghost use Prim.Native.Nat.{_+_, _/_, _%_, _<_, _≤_};
 ghost use denote.Ref.{name};
-ghost use lib.ListN.{length, take, drop, getD, set};
+ghost use lib.ListN.{length};
 ghost use Rattle.record.specs.Fields.{«pair-of»};
 ghost use Rattle.record.specs.Growth.{Grown};
 

@@ -1,5 +1,5 @@
 ghost use mathlib.Core.Path.{_≡_};
-ghost use Prim.Native.Nat.{ℕ, _+_, _<_, _≤_};
+ghost use Prim.Native.Nat.{_+_, _<_, _≤_};
 ghost use lib.ListN.{length, getD, replicate};
 ghost use Rattle.row_stack.specs.Rows.{row, Laid, applied, chosen, gathered, «sender-cells», «own-cell»};
 use crate::row_stack::RowStack;

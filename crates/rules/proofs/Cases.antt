@@ -1,7 +1,7 @@
 -- The worked cases hold.
 use mathlib.Core.Path.{_≡_, refl}
 use mathlib.Core.List.{List, [], _∷_}
-use mathlib.Core.Bool.{Bool, false}
+use mathlib.Core.Bool.{false}
 use Prim.Native.Nat.{ℕ}
 use Rattle.rules.specs.Rules.{Field, senders, folded, work, record-of}
 use Rattle.rules.specs.Cases.{Worked-cases}

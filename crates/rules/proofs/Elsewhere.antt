@@ -1,18 +1,16 @@
 -- Values are the same at all numbers that are neither own nor held.
 use mathlib.Core.Path.{_≡_, refl, sym}
-use mathlib.Core.Logic.{_≢_}
 use mathlib.Core.List.{List, [], _∷_, _++_}
 use mathlib.Core.Bool.{Bool, true, false, cond}
 use Prim.Native.Nat.{ℕ, zero, suc, _+_}
 use lib.ListN.{getD}
-use lib.Dec.{eqb}
 use borrow.Author.Tests.{ne-eqb}
 use Rattle.kind.specs.Kind.{Meaning}
 use Rattle.program.specs.Expressions.{Expr, Exprs, literal, variable, bind, operator, fold, exchange, share, branch, call, sensor, link, own, choose, none, then}
 use Rattle.program.specs.Measures.{places, places-all}
 use Rattle.record.specs.Trees.{silent}
-use Rattle.rules.specs.Rules.{Field, at, elsewhere, or-else, everywhere, Sender, Given, hears, link-to, links, received, senders, Out, work, work-all}
-use Rattle.rules.specs.Laws.{Apart, alone, from, Same-elsewhere, Values-same-elsewhere}
+use Rattle.rules.specs.Rules.{Field, everywhere, Sender, Given, hears, link-to, received, senders, Out, work, work-all}
+use Rattle.rules.specs.Laws.{Apart, from, Same-elsewhere, Values-same-elsewhere}
 
 module _ {V : Type 0} (g : Given V) where
   unheard : (p n : ℕ) (ss : List (Sender V)) → Apart n (senders ss) → hears (g .number) p n ss ≡ silent

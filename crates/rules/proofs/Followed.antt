@@ -1,18 +1,17 @@
 -- The records of a round are those that its expression has due.
 use mathlib.Core.Path.{_≡_, refl, subst}
-use mathlib.Core.Logic.{_≢_}
-use mathlib.Core.List.{List, [], _∷_, _++_}
+use mathlib.Core.List.{List, [], _∷_}
 use mathlib.Core.Bool.{Bool, true, false, cond}
-use Prim.Native.Nat.{ℕ, suc, _+_, _≤_, _<_}
+use Prim.Native.Nat.{ℕ, _+_, _≤_, _<_}
 use native.Mathlib.Omega.{arith}
 use lib.ListN.{length}
 use lib.Dec.{ltb}
 use borrow.Author.Tests.{ltb-true, ltb-false}
-use Rattle.kind.specs.Kind.{Meaning, Lawful}
+use Rattle.kind.specs.Kind.{Meaning}
 use Rattle.program.specs.Expressions.{Expr, Exprs, literal, variable, bind, operator, fold, exchange, share, branch, call, sensor, link, own, choose, none, then}
 use Rattle.program.specs.Measures.{places, places-all}
 use Rattle.record.specs.Plans.{Plan, sent-at, choice-at, due, due-all}
-use Rattle.record.specs.Trees.{Entry, Rec, choice, Rising-places}
+use Rattle.record.specs.Trees.{choice, Rising-places}
 use Rattle.record.specs.Writing.{Follows, ended, sends, first, second, both, Rising-entries, no-entry, entry-then}
 use Rattle.record.proofs.Places.{places-rise}
 use Rattle.record.proofs.Weights.{tree-fits}

@@ -12,7 +12,7 @@ use Rattle.std.specs.shelf.Lists.{All}
 use Rattle.std.specs.declared.option.Option.{Option}
 use Rattle.std.specs.declared.option.Option.the-variants.{Some, None}
 use Rattle.std.specs.declared.result.Result.the-variants.{Ok, Err}
-use Rattle.refusal.specs.Outcomes.{Outcome, after, must}
+use Rattle.refusal.specs.Outcomes.{Outcome, must}
 use Rattle.refusal.proofs.Outcomes.{after-ok, must-ok, ok-same}
 use Rattle.kind.specs.Kind.{Meaning}
 use Rattle.record.specs.Fields.{byte-at, pair-at, quad-at}
@@ -20,10 +20,10 @@ use Rattle.record.specs.Headers.{header, header-length, most-bytes, version, co
 use Rattle.record.specs.Messages.{message, records}
 use Rattle.record.specs.Plans.{Plan}
 use Rattle.record.specs.Trees.{Tree}
-use Rattle.inbox.specs.Contents.{Item, Contents, Rising, Lawful}
-use Rattle.rules.specs.Rules.{Sender, Given, senders}
+use Rattle.inbox.specs.Contents.{Item, Rising}
+use Rattle.rules.specs.Rules.{Sender, senders}
 use Rattle.rules.specs.Held.{sender-with, before, sender-in, held-in}
-use Rattle.rules.specs.Laws.{Rising-numbers, no-number, number-then, Apart, alone, from, Orderly, Held-orderly}
+use Rattle.rules.specs.Laws.{Rising-numbers, no-number, number-then, Apart, alone, from, Held-orderly}
 
 -- an accepted message is another node's
 header-other : (program me : ℕ) (m : List ℕ) (s : ℕ) → header program me m ≡ Ok s → s ≢ me

@@ -1,5 +1,5 @@
 -- The proof of isolation.
-use mathlib.Core.Path.{_≡_, refl, sym, ap, subst, fun-ext}
+use mathlib.Core.Path.{_≡_, refl, subst, fun-ext}
 use mathlib.Core.List.{List, [], _∷_, _++_}
 use mathlib.Core.Bool.{Bool, true, false, cond, _&&_}
 use Prim.Native.Nat.{ℕ, _+_}
@@ -9,12 +9,11 @@ use borrow.Author.Tests.{eqb-true}
 use Rattle.kind.specs.Kind.{Meaning}
 use Rattle.program.specs.Expressions.{Expr, Exprs, literal, variable, bind, operator, fold, exchange, share, branch, call, sensor, link, own, choose, none, then}
 use Rattle.program.specs.Measures.{places, places-all}
-use Rattle.std.specs.Options.{valueOr}
-use Rattle.record.specs.Trees.{Rec, choice, sent, place-of, Said, silent, chose, reads, says, Agree}
+use Rattle.record.specs.Trees.{Rec, choice, sent, says, Agree}
 use Rattle.record.proofs.Agreement.{agrees-as-said}
 use Rattle.rules.specs.Rules.{Spot, Field, at, elsewhere, or-else, is-choice}
-use Rattle.rules.specs.Rules.{Sender, Given, hears, link-to, senders, everywhere, links, received, narrowed, folded, entries, with-own, record-of, Out, Outs, work, work-all}
-use Rattle.rules.specs.Isolation.{Visits, here, later, Matched, All-matched, more, Same-for, Isolation}
+use Rattle.rules.specs.Rules.{Sender, Given, hears, link-to, senders, everywhere, links, received, narrowed, folded, entries, with-own, record-of, Out, work, work-all}
+use Rattle.rules.specs.Isolation.{Visits, here, later, All-matched, more, Same-for, Isolation}
 use Rattle.rules.specs.Isolation as stated
 
 agree-says : {V : Type 0} (n p : ℕ) (t u : List (Rec V)) → Agree n p t u → says n p t ≡ says n p u

@@ -1,9 +1,8 @@
 -- What a round learns of other nodes: isolation, stated. Assumes nothing.
 use mathlib.Core.Path.{_≡_}
 use mathlib.Core.List.{List, [], _∷_}
-use mathlib.Core.Bool.{Bool, true, cond}
+use mathlib.Core.Bool.{Bool, true}
 use Prim.Native.Nat.{ℕ}
-use lib.Dec.{eqb}
 use Rattle.kind.specs.Kind.{Meaning}
 use Rattle.program.specs.Expressions.{Expr}
 use Rattle.record.specs.Trees.{Rec, place-of, Agree}

@@ -1,16 +1,16 @@
 -- How a walk goes along the parts of an expression. Assumes nothing.
-use mathlib.Core.Path.{_≡_, refl, sym, ap, subst, _∙_}
-use mathlib.Core.List.{List, [], _∷_, _++_}
+use mathlib.Core.Path.{_≡_, refl, sym, ap, _∙_}
+use mathlib.Core.List.{List, [], _∷_}
 use mathlib.Core.Bool.{Bool, true, false, cond}
-use Prim.Native.Nat.{ℕ, zero, suc, _+_, _-_, _≤_, _<_}
+use Prim.Native.Nat.{ℕ, zero, suc, _+_, _-_, _≤_}
 use native.Mathlib.Omega.{arith}
 use Rattle.std.specs.declared.result.Result.the-variants.{Ok, Err}
 use Rattle.kind.specs.Kind.{Meaning}
-use Rattle.refusal.specs.Outcomes.{Outcome, refuse, after, must, mapped}
+use Rattle.refusal.specs.Outcomes.{Outcome, after, mapped}
 use Rattle.record.specs.Records.{record-at}
 use Rattle.record.specs.Messages.{records, behind-records}
 use Rattle.record.specs.Plans.{Plan, nothing, sent-at, choice-at, _⨾_, due, due-all}
-use Rattle.program.specs.Expressions.{Expr, Exprs, none, then, branch}
+use Rattle.program.specs.Expressions.{Expr, Exprs}
 use Rattle.program.specs.Measures.{places, places-all}
 use Rattle.record.specs.Trees.{Rec, is-first}
 use Rattle.std.specs.declared.option.Option.the-variants.{Some}

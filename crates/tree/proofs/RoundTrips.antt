@@ -1,16 +1,13 @@
 -- Reading and writing of messages along a program. Assumes nothing.
-use mathlib.Core.Path.{_≡_, refl, sym, ap, subst, _∙_}
-use mathlib.Core.Logic.{_≢_}
+use mathlib.Core.Path.{_≡_, ap, subst, _∙_}
 use mathlib.Core.List.{List}
 use mathlib.Core.Bool.{true}
-use Prim.Native.Nat.{ℕ, _+_, _≤_, _<_}
+use Prim.Native.Nat.{ℕ, _≤_, _<_}
 use native.Mathlib.Omega.{arith}
 use lib.ListN.{length}
-use lib.Dec.{eqb}
 use Rattle.std.proofs.shelf.Ways.{tells}
-use Rattle.std.specs.declared.result.Result.the-variants.{Ok}
 use Rattle.refusal.specs.Outcomes.{after, must}
-use Rattle.refusal.proofs.Outcomes.{after-ok, after-is}
+use Rattle.refusal.proofs.Outcomes.{after-ok}
 use Rattle.refusal.specs.declared.cause.Cause.the-variants as cause
 use Rattle.kind.specs.Kind.{Meaning, Lawful}
 use Rattle.program.specs.declared.program.Program.{Program}
@@ -19,15 +16,14 @@ use Rattle.program.specs.Verdict.{suits}
 use Rattle.program.specs.Programs.{shown, run-of}
 use Rattle.program.proofs.Shown.{run-within}
 use Rattle.record.specs.Fields.{Bytes}
-use Rattle.record.specs.Headers.{most-bytes, header-length}
+use Rattle.record.specs.Headers.{most-bytes}
 use Rattle.record.specs.Trees.{Tree}
 use Rattle.record.specs.Messages.{message}
 use Rattle.record.specs.Writing.{Follows, written-tree}
-use Rattle.record.specs.Laws.{Canonical}
 use Rattle.record.proofs.Written.{written-read}
 use Rattle.record.proofs.Canonical.{read-written}
 use Rattle.record.proofs.Weights.{tree-fits}
-use Rattle.tree.specs.Trees.{plan-of, tree-in, Round-trips}
+use Rattle.tree.specs.Trees.{plan-of, Round-trips}
 
 module _ {V : Type 0} (k : Meaning V) (lawful : Lawful k) (p : Program) (me : ℕ) (m : List ℕ) where
   -- a program of this kind has its width

@@ -1,17 +1,13 @@
 -- Walking a program and a message side by side. Assumes nothing.
-use mathlib.Core.Path.{_≡_}
 use mathlib.Core.List.{List}
-use mathlib.Core.Bool.{Bool, cond}
-use Prim.Native.Nat.{ℕ, zero, suc, _+_, _≤_}
-use lib.ListN.{length}
-use Rattle.std.specs.declared.result.Result.the-variants.{Ok, Err}
+use Prim.Native.Nat.{ℕ, zero, suc, _+_}
+use Rattle.std.specs.declared.result.Result.the-variants.{Ok}
 use Rattle.kind.specs.Kind.{Meaning}
-use Rattle.refusal.specs.Outcomes.{Outcome, refuse, after, must, mapped}
+use Rattle.refusal.specs.Outcomes.{Outcome, after}
 use Rattle.record.specs.Messages.{records}
 use Rattle.record.specs.Plans.{due}
-use Rattle.program.specs.Expressions.{Expr, Exprs}
-use Rattle.program.specs.Measures.{places, places-all}
-use Rattle.record.specs.Trees.{Rec}
+use Rattle.program.specs.Expressions.{Expr}
+use Rattle.program.specs.Measures.{places}
 use Rattle.unfolding.specs.Unfolding.{named}
 use Rattle.record.specs.Records.{record-at}
 use Rattle.record.specs.declared.record.Body.the-variants as body

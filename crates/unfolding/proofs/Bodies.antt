@@ -1,8 +1,8 @@
 -- Every function of a checked program unfolds to its body, and so does the run. Assumes nothing.
-use mathlib.Core.Path.{_≡_, refl, sym, ap, subst, _∙_}
+use mathlib.Core.Path.{_≡_, sym, ap, subst, _∙_}
 use mathlib.Core.Logic.{⊎-elim}
 use mathlib.Core.List.{List, [], _∷_, _++_, map}
-use mathlib.Core.Bool.{Bool, true, false, not, _&&_, _||_}
+use mathlib.Core.Bool.{Bool, true, not, _&&_, _||_}
 use Prim.Native.Nat.{ℕ, zero, suc, _+_, _-_, _≤_, _<_}
 use native.Mathlib.Omega.{arith}
 use lib.ListN.{length, getD, take, replicate, length-map, length-append, List·getD-map}
@@ -10,9 +10,9 @@ use lib.Dec.{eqb, leb}
 use Rattle.std.proofs.shelf.Lists.{getD-append-left, getD-append-add, getD-default}
 use Rattle.std.proofs.shelf.Tests.{cases-lt}
 use Rattle.std.proofs.shelf.Ways.{tells}
-use Rattle.std.specs.declared.result.Result.the-variants.{Ok, Err}
+use Rattle.std.specs.declared.result.Result.the-variants.{Ok}
 use Rattle.refusal.specs.declared.cause.Cause.the-variants as cause
-use Rattle.refusal.specs.Outcomes.{Outcome, after, must}
+use Rattle.refusal.specs.Outcomes.{must}
 use Rattle.refusal.proofs.Outcomes.{after-ok, must-ok, ok-same, Gives, gives-ok, gives-after}
 use Rattle.program.specs.declared.program.Program.{Program}
 use Rattle.program.specs.declared.shape.KindShape.{KindShape}
@@ -23,7 +23,7 @@ use Rattle.program.specs.Reading.{no-function, expr}
 use Rattle.program.specs.Verdict.{function, functions, none-refused, part-fits, part-end, within-limits}
 use Rattle.program.specs.Sizing.{row, no-row, table-of}
 use Rattle.program.specs.Programs.{shown, block-of, run-of}
-use Rattle.program.proofs.Shown.{program-parts, function-count, last-in}
+use Rattle.program.proofs.Shown.{program-parts, last-in}
 use Rattle.unfolding.specs.Unfolding.{named, unfolded}
 use Rattle.unfolding.specs.Walks.{rows, unfolded-in}
 use Rattle.unfolding.proofs.Checked.{Before, read-unfolds}

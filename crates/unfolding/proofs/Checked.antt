@@ -1,25 +1,23 @@
 -- What the check read is what a walk over the bytes unfolds. Assumes nothing.
 use mathlib.Core.Path.{_≡_, refl, sym, ap, subst, _∙_}
-use mathlib.Core.List.{List, [], _∷_, _++_}
-use mathlib.Core.Bool.{Bool, true, false}
-use Prim.Native.Nat.{ℕ, zero, suc, _+_, _-_, _≤_, _<_, max}
+use mathlib.Core.List.{List}
+use mathlib.Core.Bool.{Bool, true}
+use Prim.Native.Nat.{ℕ, zero, suc, _+_, _-_, _≤_, _<_}
 use native.Mathlib.Omega.{arith}
 use lib.ListN.{length, getD, take, drop}
 use Rattle.std.proofs.shelf.Tests.{ltb-true}
-use Rattle.std.specs.declared.option.Option.the-variants.{Some, None}
-use Rattle.std.specs.declared.result.Result.the-variants.{Ok, Err}
+use Rattle.std.specs.declared.result.Result.the-variants.{Ok}
 use Rattle.refusal.specs.declared.cause.Cause.the-variants as cause
-use Rattle.refusal.specs.Outcomes.{Outcome, after, must}
+use Rattle.refusal.specs.Outcomes.{Outcome, must}
 use Rattle.refusal.proofs.Outcomes.{after-ok, must-ok, ok-same}
 use Rattle.program.specs.declared.shape.KindShape.{KindShape}
 use Rattle.program.specs.declared.function.Function.{Function}
 use Rattle.program.specs.declared.expression.Expression.{Expression}
 use Rattle.program.specs.declared.expression.Expression.the-variants.{Literal, Variable, Let, Operator, Fold, Exchange, Share, If, Call, Sensor, Link, Own, Choose}
-use Rattle.program.specs.Expressions.{Expr, Exprs, literal, none, then, bind, operator, fold, exchange, share, branch, call, own, choose, sensor, link, variable, Unfolded}
+use Rattle.program.specs.Expressions.{Expr, literal, none, then, bind, operator, fold, exchange, share, branch, call, own, choose, sensor, link, variable, Unfolded}
 use Rattle.program.specs.Measures.{depth, depth-all}
-use Rattle.program.specs.Reading.{decoded, readable, available, part-count, binds, callee, no-function, called-function, Parts, arguments, built, parts, expr-by, expr}
-use Rattle.unfolding.specs.Unfolding.{expression-at, start, named, listed, unfolded-by, unfolded-or, unfolded}
-use Rattle.unfolding.proofs.Near.{deep}
+use Rattle.program.specs.Reading.{decoded, readable, available, part-count, binds, no-function, called-function, Parts, arguments, built, parts, expr}
+use Rattle.unfolding.specs.Unfolding.{start, named, listed, unfolded-by, unfolded-or, unfolded}
 use Rattle.unfolding.proofs.Decoding.{stepped, part-bytes}
 
 -- each part is at most so deep

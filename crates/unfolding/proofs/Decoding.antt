@@ -1,9 +1,9 @@
 -- What the check decoded is the expression at that position. Assumes nothing.
 use mathlib.Core.Path.{_≡_, refl, sym, ap, subst, _∙_}
 use mathlib.Core.Logic.{⊎-elim}
-use mathlib.Core.List.{List, [], _∷_}
-use mathlib.Core.Bool.{Bool, true, false, cond, _||_}
-use Prim.Native.Nat.{ℕ, zero, suc, _+_, _-_, _≤_, _<_}
+use mathlib.Core.List.{List}
+use mathlib.Core.Bool.{Bool, true, false, cond}
+use Prim.Native.Nat.{ℕ, _+_, _-_, _≤_, _<_}
 use native.Mathlib.Omega.{arith}
 use lib.ListN.{length, getD, take, drop, length-drop}
 use lib.Seq.{getD-drop, getD-take}
@@ -13,8 +13,8 @@ use Rattle.std.proofs.shelf.Parts.{between-is}
 use Rattle.std.proofs.shelf.Tests.{cases-lt}
 use Rattle.std.proofs.shelf.Ways.{tells}
 use Rattle.std.specs.declared.option.Option.{Option}
-use Rattle.std.specs.declared.option.Option.the-variants.{Some, None}
-use Rattle.std.specs.declared.result.Result.the-variants.{Ok, Err}
+use Rattle.std.specs.declared.option.Option.the-variants.{Some}
+use Rattle.std.specs.declared.result.Result.the-variants.{Ok}
 use Rattle.refusal.specs.declared.cause.Cause.{Cause}
 use Rattle.refusal.specs.declared.cause.Cause.the-variants as cause
 use Rattle.refusal.specs.Outcomes.{Outcome, refuse}

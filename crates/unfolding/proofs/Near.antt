@@ -1,6 +1,6 @@
 -- Where expressions end, and what a step has of places. Assumes nothing.
 use mathlib.Core.Path.{_≡_, refl, sym, ap, subst, _∙_}
-use mathlib.Core.Logic.{_⊎_, inl, inr, ⊎-elim}
+use mathlib.Core.Logic.{_⊎_, ⊎-elim}
 use mathlib.Core.List.{List}
 use mathlib.Core.Bool.{Bool, true, false, cond}
 use Prim.Native.Nat.{ℕ, zero, suc, _+_, _-_, _≤_, _<_}
@@ -9,7 +9,7 @@ use lib.ListN.{length, getD}
 use lib.Dec.{eqb}
 use Rattle.std.proofs.shelf.Lists.{getD-past}
 use Rattle.std.proofs.shelf.Tests.{cases-lt}
-use Rattle.program.specs.Expressions.{Expr, Exprs, call, link, none, then}
+use Rattle.program.specs.Expressions.{Expr, Exprs, link}
 use Rattle.std.specs.declared.option.Option.{Option}
 use Rattle.std.specs.declared.option.Option.the-variants.{Some, None}
 use Rattle.program.specs.Measures.{places, places-all}

@@ -1,13 +1,13 @@
 -- What a walk over a program in hand can rely on. Assumes nothing.
-use mathlib.Core.Path.{_≡_, refl, sym, ap, subst, _∙_}
-use mathlib.Core.List.{List, [], _∷_, _++_, map}
+use mathlib.Core.Path.{_≡_, sym, ap, subst, _∙_}
+use mathlib.Core.List.{List, [], _∷_, map}
 use Prim.Native.Nat.{ℕ, zero, suc, _+_, _-_, _^_, _≤_, _<_}
 use native.Mathlib.Omega.{arith}
-use lib.ListN.{length, getD, take, replicate}
+use lib.ListN.{length, getD, replicate}
 use Rattle.std.specs.shelf.Lists.{All}
 use Rattle.std.proofs.shelf.Lists.{length-take}
 use Rattle.std.proofs.shelf.Elements.{all-append, all-map, all-weaker}
-use Rattle.std.specs.declared.option.Option.the-variants.{Some, None}
+use Rattle.std.specs.declared.option.Option.the-variants.{Some}
 use Rattle.program.specs.declared.program.Program.{Program}
 use Rattle.program.specs.declared.function.Function.{Function}
 use Rattle.program.specs.declared.shape.KindShape.{KindShape}
@@ -18,7 +18,7 @@ use Rattle.program.specs.Measures.{places}
 use Rattle.program.specs.Sizing.{row, no-row, table-of}
 use Rattle.program.specs.Programs.{shown, block-of}
 use Rattle.program.proofs.Shown.{Kept, found, program-parts}
-use Rattle.unfolding.specs.Unfolding.{expression-at, named, count-in, start, body-places, unfolded}
+use Rattle.unfolding.specs.Unfolding.{expression-at, named, count-in, start, body-places}
 use Rattle.unfolding.specs.Walks.{rows, unfolded-in}
 use Rattle.unfolding.proofs.Near.{Known, known, near-start, near-unfolded}
 

@@ -3,7 +3,7 @@ ghost use Prim.Native.Nat.{_≤_};
 ghost use lib.ListN.{length, getD};
 ghost use Rattle.program.specs.Measures.{size, depth, weight, places, sites, «sizes-of»};
 ghost use Rattle.program.specs.Sizing.{«table-of», «no-row»};
-ghost use Rattle.program.specs.Programs.{shown, «run-of», «block-of»};
+ghost use Rattle.program.specs.Programs.{shown, «run-of»};
 use super::Program;
 use crate::function::Function;
 use crate::sizes::Sizes;

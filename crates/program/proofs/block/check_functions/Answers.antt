@@ -1,10 +1,8 @@
-use borrow.Author.Needs.{needs}
-use mathlib.Core.Path.{_≡_, refl, sym, ap, subst, _∙_}
-use Prim.Native.Nat.{ℕ, _+_, _-_, _<_, _≤_}
-use lib.ListN.{length, take}
+use mathlib.Core.Path.{_≡_}
+use Prim.Native.Nat.{_-_}
 use native.Mathlib.Omega.{arith}
 use Rattle.std.proofs.shelf.Results.{err-from-errBy}
-use Rattle.program.proofs.Tables.{Sofar, front, limited-take, by-refusal, by-end, more, none, safe-none, safe-more}
+use Rattle.program.proofs.Tables.{front, limited-take, by-refusal, by-end, more, none, safe-none, safe-more}
 use Rattle.program.proofs.block.check_functions.Needs as need
 
 pub loop-i-holds : need.loop-i-holds

@@ -1,5 +1,3 @@
-use mathlib.Core.Path.{_≡_}
-use borrow.Author.Needs.{needs}
 use Rattle.std.proofs.shelf.Results.{err-from-errBy}
 use Rattle.program.specs.Verdict.{refused-by}
 use Rattle.program.proofs.Verdicts.{refused-functions, outlined-is, shown-is, refused-in-layer, shown-suits}

@@ -1,10 +1,8 @@
 use borrow.Author.Needs.{needs}
 use borrow.Author.Tests.{eq-eqb, ne-eqb}
-use mathlib.Core.Path.{_≡_, refl, sym, ap, _∙_}
+use mathlib.Core.Path.{sym, _∙_}
 use native.Mathlib.Omega.{arith}
-use Prim.Native.Nat.{_+_, _-_, _≤_, _<_}
-use lib.ListN.{length}
-use Rattle.record.specs.Fields.{pair-at}
+use Prim.Native.Nat.{_-_}
 use Rattle.record.proofs.Rows.{behind-next, behind-one, found-here, found-later}
 use Rattle.record.proofs.reading.find_entry.Needs as need
 

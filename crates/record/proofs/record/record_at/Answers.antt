@@ -1,8 +1,7 @@
 use borrow.Author.Needs.{needs}
-use mathlib.Core.Path.{_≡_, refl, sym, ap, subst, _∙_}
 use native.Mathlib.Omega.{arith}
-use Prim.Native.Nat.{_+_, _*_, _-_, _≤_, _<_}
-use lib.ListN.{length, getD, take, drop, length-take, length-drop}
+use Prim.Native.Nat.{_+_, _-_}
+use lib.ListN.{getD, length-take, length-drop}
 use Rattle.record.proofs.Rows.{behind-is}
 use Rattle.record.proofs.record.record_at.Needs as need
 

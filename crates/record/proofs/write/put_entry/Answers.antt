@@ -1,5 +1,4 @@
-use borrow.Author.Needs.{needs}
-use mathlib.Core.Path.{_≡_, refl, sym, ap, _∙_}
+use mathlib.Core.Path.{_∙_}
 use Rattle.record.proofs.Grows.{grown-after}
 use Rattle.record.proofs.write.put_entry.Needs as need
 

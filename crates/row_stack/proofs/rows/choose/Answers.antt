@@ -1,8 +1,8 @@
 use mathlib.Core.Path.{_≡_, refl, sym, ap, _∙_}
-use mathlib.Core.Bool.{Bool, true, false, cond}
+use mathlib.Core.Bool.{Bool, cond}
 use native.Mathlib.Omega.{arith}
-use Prim.Native.Nat.{ℕ, _+_, _<_}
-use lib.ListN.{length, getD}
+use Prim.Native.Nat.{ℕ, _+_}
+use lib.ListN.{getD}
 use Rattle.row_stack.specs.Rows.{row, chosen}
 use Rattle.row_stack.proofs.Laying.{none-laid, more-laid, all-laid, long-still, cell-still, rows-chosen-long, rows-chosen-cell}
 use Rattle.row_stack.proofs.rows.choose.Needs.{then-truth, else-truth}

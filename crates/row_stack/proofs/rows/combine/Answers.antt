@@ -1,7 +1,6 @@
-use mathlib.Core.Path.{_≡_, refl, sym, _∙_}
+use mathlib.Core.Path.{refl, _∙_}
 use native.Mathlib.Omega.{arith}
-use Prim.Native.Nat.{_+_, _<_}
-use lib.ListN.{length}
+use Prim.Native.Nat.{_+_}
 use Rattle.row_stack.specs.Rows.{row, applied}
 use Rattle.row_stack.proofs.Laying.{none-laid, more-laid, all-laid, long-still, cell-still, rows-applied-long, rows-applied-cell}
 use Rattle.row_stack.proofs.rows.combine.Needs as need

@@ -1,9 +1,9 @@
 use mathlib.Core.Path.{_≡_, refl, sym, ap, _∙_}
-use mathlib.Core.Bool.{Bool, true, false, cond}
+use mathlib.Core.Bool.{true, false}
 use native.Mathlib.Omega.{arith}
-use Prim.Native.Nat.{ℕ, suc, _+_, _-_, _<_}
-use lib.ListN.{length, getD, drop, replicate}
-use Rattle.row_stack.specs.Rows.{gathered, sender-cells, own-cell, Laid}
+use Prim.Native.Nat.{ℕ, suc, _+_, _-_}
+use lib.ListN.{getD, drop}
+use Rattle.row_stack.specs.Rows.{gathered, sender-cells, own-cell}
 use Rattle.row_stack.proofs.Laying.{gathered-next, gathered-end, senders-long, sender-cell}
 use Rattle.row_stack.proofs.rows.fold.Needs.{then-aligned-j, else-aligned-j}
 use Rattle.row_stack.proofs.rows.fold.Needs as need

@@ -1,5 +1,3 @@
-use mathlib.Core.Path.{sym}
-use borrow.Author.Needs.{needs}
 use native.Mathlib.Omega.{arith}
 use Rattle.std.specs.Of.Vec.{vec-items}
 use Rattle.script.proofs.Pairs.{pairs-start, pairs-stop, pairs-more, pairs-end, pairs-odd}

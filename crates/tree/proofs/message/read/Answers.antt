@@ -1,5 +1,4 @@
 use borrow.Author.Needs.{needs}
-use mathlib.Core.Path.{_≡_}
 use native.Mathlib.Omega.{arith}
 use Rattle.tree.proofs.RoundTrips.{round-trips}
 use Rattle.tree.proofs.message.read.Needs as need

@@ -1,9 +1,8 @@
-use borrow.Author.Needs.{needs}
-use mathlib.Core.Path.{_≡_, refl, sym, ap, subst, _∙_}
+use mathlib.Core.Path.{_≡_, refl, sym, ap, _∙_}
 use native.Mathlib.Omega.{arith}
-use Prim.Native.Nat.{ℕ, _+_, _-_, _≤_}
+use Prim.Native.Nat.{ℕ, _+_, _-_}
 use Rattle.std.proofs.shelf.Results.{err-from-errBy}
-use Rattle.std.specs.declared.result.Result.the-variants.{Ok, Err}
+use Rattle.std.specs.declared.result.Result.the-variants.{Ok}
 use Rattle.refusal.specs.Outcomes.{Outcome, after}
 use Rattle.program.specs.declared.expression.Expression.the-variants.{If}
 use Rattle.program.specs.Expressions.{Expr}
@@ -13,7 +12,7 @@ use Rattle.unfolding.specs.Unfolding.{listed}
 use Rattle.unfolding.specs.Walks.{rows, unfolded-in}
 use Rattle.unfolding.proofs.Near.{split, blank, near-start}
 use Rattle.unfolding.proofs.Programs.{wide, narrow, known-in, near-in, start-small, body-start, body-is}
-use Rattle.tree.specs.Walks.{Stand, walked, walked-parts, finished}
+use Rattle.tree.specs.Walks.{Stand, walked, finished}
 use Rattle.tree.proofs.Passing as passing
 use Rattle.tree.proofs.walk.+branch+finish+walk+walk_parts.Needs as need
 

@@ -1,4 +1,4 @@
-use mathlib.Core.Path.{_≡_, ap, sym, _∙_}
+use mathlib.Core.Path.{ap, sym, _∙_}
 use Rattle.program.specs.declared.header.Header.{Header}
 use Rattle.program.proofs.Shown.{header-is, function-count}
 use Rattle.program.proofs.program.Program.functions.Needs as need

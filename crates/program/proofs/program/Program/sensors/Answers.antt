@@ -1,4 +1,4 @@
-use mathlib.Core.Path.{_≡_, ap}
+use mathlib.Core.Path.{ap}
 use Rattle.program.specs.declared.header.Header.{Header}
 use Rattle.program.proofs.Shown.{header-is}
 use Rattle.program.proofs.program.Program.sensors.Needs as need

@@ -1,8 +1,4 @@
-use mathlib.Core.Path.{_≡_}
-use Rattle.std.specs.declared.result.Result.the-variants.{Ok}
 use borrow.Author.Needs.{needs}
-use Rattle.program.specs.Sizing.{outlined}
-use Rattle.program.specs.Verdict.{read-block, none-refused}
 use Rattle.program.proofs.program.keeping.keep.Needs as need
 
 pub ghost-result : need.ghost-result

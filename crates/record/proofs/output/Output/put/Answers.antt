@@ -1,4 +1,4 @@
-use mathlib.Core.Path.{_≡_, refl, sym, _∙_}
+use mathlib.Core.Path.{refl}
 use lib.ListN.{length-set}
 use Rattle.std.proofs.shelf.Lists.{take-more-set}
 use Rattle.record.proofs.Grows.{drop-set}

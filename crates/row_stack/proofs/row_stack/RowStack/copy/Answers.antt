@@ -4,7 +4,6 @@ use native.Mathlib.Omega.{arith}
 use Prim.Native.Nat.{ℕ, _+_, _-_}
 use lib.ListN.{take, drop}
 use lib.Seq.{paste, take-take}
-use Rattle.row_stack.specs.Rows.{row}
 use Rattle.row_stack.proofs.row_stack.RowStack.copy.Needs as need
 
 pub returns : need.returns
