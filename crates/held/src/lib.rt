@@ -1,3 +1,5 @@
 //! The senders that a round holds, loaded from any inbox into lent bytes.
+#![tactic(auto)]
+
 pub mod load;
 pub mod slots;

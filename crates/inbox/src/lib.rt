@@ -1,4 +1,6 @@
 //! Inboxes: what any inbox promises, the checked limits, and what can be done with any inbox.
+#![tactic(auto)]
+
 pub mod check_put;
 pub mod generic;
 pub mod inbox;

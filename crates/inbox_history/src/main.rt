@@ -1,4 +1,6 @@
 //! Drives both inboxes and a plain model through the same long histories of calls, and prints what came of it.
+#![tactic(auto)]
+
 use inbox::limits::{LONGEST_ITEM, Limits};
 use packed_inbox::packed_inbox::PackedInbox;
 use slot_inbox::slot_inbox::SlotInbox;

@@ -1,4 +1,6 @@
 //! Programs: from any bytes to a checked program, or one refusal with its position.
+#![tactic(auto)]
+
 mod block;
 pub mod check;
 pub mod expression;

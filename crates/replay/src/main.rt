@@ -1,4 +1,6 @@
 //! Plays a script of calls from standard input, one a line, and prints what each gave.
+#![tactic(auto)]
+
 ghost use Rattle.std.specs.Prelude.{◌≤◌, length, IfOk};
 
 mod play;

@@ -1,4 +1,6 @@
 //! A round worked out: the rules over rows and bytes.
+#![tactic(auto)]
+
 mod task;
 mod work;
 pub mod work_out;

@@ -1,2 +1,4 @@
 //! What an exchange or share sends, written as its record.
+#![tactic(auto)]
+
 pub mod sent;

@@ -1,2 +1,4 @@
 //! Lines of calls on a node, and what holds of them.
+#![tactic(auto)]
+
 pub mod laws;
