@@ -9,7 +9,7 @@ pub returns : goal.returns
 returns c =
     let bs = c.args.bytes.now in
     let l : length bs ≡ 8 = search rules in
-    let t : are_bytes 8 bs ≡ true = are_bytes_if 8 bs l (λ i. (c.ok.bytes i).fits) in
-    c.from-bits.ensures
-    ∙ ap in_sixty (c.from-be-bytes.ensures ∙ sym (value_8 bs l))
+    let t : are_bytes 8 bs ≡ true = are_bytes_if 8 bs l (λ i. (c.type_inv.bytes i).fits) in
+    c.from_bits.ensures
+    ∙ ap in_sixty (c.from_be_bytes.ensures ∙ sym (value_8 bs l))
     ∙ sym (cond-true (are_bytes 8 bs) (in_sixty (value bs)) _ t)
