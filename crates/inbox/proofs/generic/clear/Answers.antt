@@ -15,4 +15,4 @@ loop-sender-smaller g c =
 pub returns : goal.returns
 returns g c =
     let b = g.I.Inbox.meaning c.loop-sender.inbox in
-    ap (holding b) (next_empty b.items (sym c.next.ensures ∙ c.in-default.is)) ∙ c.loop-sender.invariant
+    ap (holding b) (next_empty b.items (sym c.next.ensures ∙ c.in_default.is)) ∙ c.loop-sender.invariant

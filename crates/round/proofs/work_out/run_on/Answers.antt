@@ -8,5 +8,5 @@ returns g c =
     let x : Inputs = record { program = c.args.program; node = c.args.node; slots = c.args.slots; bytes = c.args.bytes; own = c.args.own; readings = c.args.readings } in
     record {
       fits = c.run.ensures.fits;
-      means = λ y s. c.run.ensures.means y (gives_of g.K.Kind.meaning g.met.K.Kind.lawful x y (λ i. omega (arith, (c.type-inv.bytes i).fits)) s);
+      means = λ y s. c.run.ensures.means y (gives_of g.K.Kind.meaning g.met.K.Kind.lawful x y (λ i. omega (arith, (c.type_inv.bytes i).fits)) s);
     }

@@ -23,7 +23,7 @@ returns-in-err-sender g c =
       value = value;
       after = after;
       untouched = if_refused a refl;
-      promise = delivery_promise k g.met.K.Kind.lawful s link m s (λ i. omega (arith, (c.type-inv.message i).fits)) after;
+      promise = delivery_promise k g.met.K.Kind.lawful s link m s (λ i. omega (arith, (c.type_inv.message i).fits)) after;
     }
 
 pub returns-in-Ok : goal.returns-in-Ok
@@ -46,7 +46,7 @@ returns-in-Ok g c =
       value = value;
       after = after;
       untouched = tt;
-      promise = delivery_promise k g.met.K.Kind.lawful s link m _ (λ i. omega (arith, (c.type-inv.message i).fits)) after;
+      promise = delivery_promise k g.met.K.Kind.lawful s link m _ (λ i. omega (arith, (c.type_inv.message i).fits)) after;
     }
 
 pub returns-in-Err : goal.returns-in-Err
@@ -69,5 +69,5 @@ returns-in-Err g c =
       value = value;
       after = after;
       untouched = λ j. record { program = c.args.self.now.program; number = c.args.self.now.number; inbox = same j; last = c.args.self.now.last; kind = c.args.self.now.kind };
-      promise = delivery_promise k g.met.K.Kind.lawful s link m _ (λ i. omega (arith, (c.type-inv.message i).fits)) after;
+      promise = delivery_promise k g.met.K.Kind.lawful s link m _ (λ i. omega (arith, (c.type_inv.message i).fits)) after;
     }

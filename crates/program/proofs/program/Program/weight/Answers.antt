@@ -5,5 +5,5 @@ use Rattle.program.proofs.program.Program.weight.Goals as goal
 
 pub returns : goal.returns
 returns c =
-    let e = ap (λ (s : Sizes). s.weight) c.run-sizes.ensures in
+    let e = ap (λ (s : Sizes). s.weight) c.run_sizes.ensures in
     record { is = e; limit = omega (arith, e, (run_within c.args.self.now).weight) }

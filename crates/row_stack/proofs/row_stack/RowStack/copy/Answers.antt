@@ -14,7 +14,7 @@ returns g c =
       lender = refl;
       width = refl;
       cells =
-          c.copy-within.ensures.after
+          c.copy_within.ensures.after
           ∙ ap (λ (n : ℕ). paste cells at (drop from cells) n) long
           ∙ ap (λ (r : List _). take at cells ++ r ++ drop (at + w) cells) (sym (take-take w w (drop from cells) (omega arith)));
     }
