@@ -1,5 +1,5 @@
 use Rattle.std.proofs.Common.{◌≡◌, ◌-◌, arith}
-use Rattle.std.proofs.lemmas.result.{err_from_is_err_and}
+use Rattle.std.proofs.lemmas.Result.{err_from_is_err_and}
 use Rattle.program.proofs.Tables.{front, limited_take, by_refusal, by_end, more, none, safe_none, safe_more}
 use Rattle.program.proofs.block.check_functions.Goals as goal
 

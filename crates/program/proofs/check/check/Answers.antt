@@ -1,4 +1,4 @@
-use Rattle.std.proofs.lemmas.result.{err_from_is_err_and}
+use Rattle.std.proofs.lemmas.Result.{err_from_is_err_and}
 use Rattle.program.specs.Verdict.{refused_by}
 use Rattle.program.proofs.Verdicts.{refused_functions, outlined_is, shown_is, refused_in_layer, shown_suits}
 use Rattle.program.proofs.check.check.Goals as goal

@@ -5,7 +5,7 @@ use Rattle.script.proofs.text.cut.Goals as goal
 
 pub returns-then-n-text : goal.returns-then-n-text
 returns-then-n-text c =
-    let e = c.run-length-n.ensures in
+    let e = c.run_length-n.ensures in
     let stop = At c.args.c in
     let text = c.args.text.now in
     record {
@@ -16,7 +16,7 @@ returns-then-n-text c =
 
 pub returns : goal.returns
 returns c =
-    let e = c.run-length-n.ensures in
+    let e = c.run_length-n.ensures in
     let text = c.args.text.now in
     record {
       front = head_is text _ ∙ e.front;

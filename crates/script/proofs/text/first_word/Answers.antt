@@ -5,8 +5,8 @@ use Rattle.script.proofs.text.first_word.Goals as goal
 
 pub returns : goal.returns
 returns c =
-    let s = c.run-length-start.ensures in
-    let e = c.run-length-end.ensures in
+    let s = c.run_length-start.ensures in
+    let e = c.run_length-end.ensures in
     let line = c.args.line.now in
     record {
       word = word_is Word Blank line _ _ s.back e.front;

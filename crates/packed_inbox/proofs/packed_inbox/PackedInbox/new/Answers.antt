@@ -1,15 +1,12 @@
 use Rattle.std.proofs.Common.{refl, arith}
 use Rattle.packed_inbox.proofs.packed_inbox.PackedInbox.new.Goals as goal
 
-pub invariant-of-result : goal.invariant-of-result
-invariant-of-result c = (
-  refl,
-  (
-    omega arith,
-    (
-      omega arith,
-      (
-        ∣ record {
+pub invariant_of-result : goal.invariant_of-result
+invariant_of-result c = record {
+   full = refl;
+   within = omega arith;
+   spans = omega arith;
+   lawful = ∣ record {
           some = c.args.limits.some;
           most = c.args.limits.most;
           lives = c.args.limits.lives;
@@ -20,9 +17,5 @@ invariant-of-result c = (
           fits = tt;
           young = tt;
           within = omega arith;
-        } ∣₁,
-        tt,
-      ),
-    ),
-  ),
-)
+        } ∣₁;
+ }

@@ -8,8 +8,8 @@ use Rattle.packed_inbox.proofs.Cuts.{bytes_held_cut}
 use Rattle.packed_inbox.proofs.PackedFacts.{length_items, whole_rows, row_fits, length_at}
 use Rattle.packed_inbox.proofs.packed_inbox.PackedInbox.others.Goals as goal
 
-pub overflow-sub-result : goal.overflow-sub-result
-overflow-sub-result c =
+pub overflow_sub-result : goal.overflow_sub-result
+overflow_sub-result c =
     let p = c.args.self.now in
     omega (arith, row_fits p c.in-Some.at c.in-Some.ensures.row, c.offset-used.ensures ∙ ap span (whole_rows p))
 

@@ -4,5 +4,5 @@ use Rattle.slot_inbox.proofs.slot.Slot.new.Goals as goal
 
 pub returns : goal.returns
 returns c =
-    let e = c.copy-from-slice.ensures.after in
-    record { held = refl; whole = (c.requires, simp length-append (omega (arith, ap length e))); keeps = ap (λ (l : List ℕ). record { sender = c.args.sender; age = 0; bytes = l }) (take_at c.copy-from-slice.new.self _ (length c.args.item.now) (ap length e) ∙ e) }
+    let e = c.copy_from_slice.ensures.after in
+    record { held = refl; whole = (c.requires, simp length-append (omega (arith, ap length e))); keeps = ap (λ (l : List ℕ). record { sender = c.args.sender; age = 0; bytes = l }) (take_at c.copy_from_slice.new.self _ (length c.args.item.now) (ap length e) ∙ e) }

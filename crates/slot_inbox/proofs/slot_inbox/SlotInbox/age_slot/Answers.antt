@@ -6,21 +6,26 @@ use Rattle.slot_inbox.specs.SlotInbox.{contents, slot_inbox_lawful, distinct_of}
 use Rattle.slot_inbox.proofs.Gathers.{older_slot_kept, young_at, aged_slot_free, whole_set}
 use Rattle.slot_inbox.proofs.slot_inbox.SlotInbox.age_slot.Goals as goal
 
-pub overflow-add-age : goal.overflow-add-age
-overflow-add-age c =
+pub overflow_add-age : goal.overflow_add-age
+overflow_add-age c =
     let p = c.args.self.now in
     let f = p.full in
     let h = c.requires in
     let y = young_at (contents p) p.slots c.args.at empty_slot (omega arith) (distinct_of p.slots p.distinct) (slot_inbox_lawful p) c.if-self-at.true in
     omega (arith, ltb-true (get_or p.slots c.args.at empty_slot).age p.limits.life y, p.limits.short)
 
-pub invariant-of-self : goal.invariant-of-self
-invariant-of-self c =
+pub invariant_of-self : goal.invariant_of-self
+invariant_of-self c =
     let p = c.args.self.now in
     let f = p.full in
     let h = c.requires in
     let k = older_slot_kept (contents p) p.slots c.args.at empty_slot (omega arith) (distinct_of p.slots p.distinct) (slot_inbox_lawful p) c.if-self-at.true (sym c.if-lasts.ensures) in
-    (simp length-set p.full, (∣ k.lawful ∣₁, (∣ k.distinct ∣₁, (whole_set p.slots c.args.at _ (omega arith) (p.whole c.args.at h) p.whole, tt))))
+    record {
+      full = simp length-set p.full;
+      lawful = ∣ k.lawful ∣₁;
+      distinct = ∣ k.distinct ∣₁;
+      whole = whole_set p.slots c.args.at _ (omega arith) (p.whole c.args.at h) p.whole;
+    }
 
 pub release-requires : goal.release-requires
 release-requires c = record { in_range = c.requires; held = c.if-self-at.true; own = refl }

@@ -24,13 +24,18 @@ put_in c =
     (distinct_of p.slots p.distinct) (slot_inbox_lawful p) c.vacant-at.ensures.free c.new.ensures.held c.new.ensures.keeps c.requires.free (omega arith) few short
     (lt-ltb 0 p.limits.life p.limits.lives) (omega (arith, bytes_held_le (gathered p.slots) (slot_inbox_lawful p).fits))
 
-pub invariant-of-self : goal.invariant-of-self
-invariant-of-self c =
+pub invariant_of-self : goal.invariant_of-self
+invariant_of-self c =
     let p = c.args.self.now in
     let f = p.full in
     let h = c.vacant-at.ensures.row in
-    let k = put_in (goal.at.invariant-of-self c).After-new in
-    (simp length-set p.full, (∣ k.kept.lawful ∣₁, (∣ k.kept.distinct ∣₁, (whole_set p.slots c.vacant-at.result c.new.result (omega arith) c.new.ensures.whole p.whole, tt))))
+    let k = put_in (goal.at.invariant_of-self c).After-new in
+    record {
+      full = simp length-set p.full;
+      lawful = ∣ k.kept.lawful ∣₁;
+      distinct = ∣ k.kept.distinct ∣₁;
+      whole = whole_set p.slots c.vacant-at.result c.new.result (omega arith) c.new.ensures.whole p.whole;
+    }
 
 pub returns : goal.returns
 returns c = same_contents (contents c.args.self.now) refl (put_in (goal.at.returns c).After-new).items

@@ -9,11 +9,11 @@ pub returns-then-at-self : goal.returns-then-at-self
 returns-then-at-self c =
     let p = c.args.self.now in
     let n = length_items p in
-    sym (next_some (contents p).items c.args.k c.lower-bound-at.result no_item c.lower-bound-at.ensures.bound (omega arith)
-    ∙ ap (λ (s : ℕ). Some s) (sender_at p c.lower-bound-at.result no_item (omega arith)))
+    sym (next_some (contents p).items c.args.k c.lower_bound-at.result no_item c.lower_bound-at.ensures.bound (omega arith)
+    ∙ ap (λ (s : ℕ). Some s) (sender_at p c.lower_bound-at.result no_item (omega arith)))
 
 pub returns-else-at-self : goal.returns-else-at-self
 returns-else-at-self c =
     let p = c.args.self.now in
     let n = length_items p in
-    sym (next_none (contents p).items c.args.k c.lower-bound-at.result c.lower-bound-at.ensures.bound (omega arith))
+    sym (next_none (contents p).items c.args.k c.lower_bound-at.result c.lower_bound-at.ensures.bound (omega arith))

@@ -17,8 +17,8 @@ item_lasts : (p : PackedInbox) (i : ℕ) → i < p.count → {b : _} → b ≡ l
     → lasts (contents p).life ((get_or (contents p).items i no_item).age + 1) ≡ b
 item_lasts p i h e = ap (λ n. lasts p.limits.life (n + 1)) (age_at p i no_item h) ∙ sym e
 
-pub overflow-add-age : goal.overflow-add-age
-overflow-add-age c =
+pub overflow_add-age : goal.overflow_add-age
+overflow_add-age c =
     let p = c.loop-at.self in
     let ok = packed_inbox_lawful p in
     let n = length_items p in

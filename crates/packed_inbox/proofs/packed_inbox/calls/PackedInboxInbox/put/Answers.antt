@@ -10,21 +10,21 @@ use Rattle.packed_inbox.specs.LentMemory.{laid_in}
 use Rattle.packed_inbox.proofs.LaidIn.{laid_twice}
 use Rattle.packed_inbox.proofs.PackedFacts.{length_items, laid_as_it_stood}
 use Rattle.packed_inbox.proofs.packed_inbox.calls.PackedInboxInbox.put.Goals as goal
-use Rattle.packed_inbox.proofs.packed_inbox.calls.PackedInboxInbox.put.Goals.{After-check-put}
+use Rattle.packed_inbox.proofs.packed_inbox.calls.PackedInboxInbox.put.Goals.{After-check_put}
 
-answer : (c : goal.After-check-put) → c.check-put.result ≡ put_answer (contents c.args.self.now) c.args.sender c.args.item.now
+answer : (c : goal.After-check_put) → c.check_put.result ≡ put_answer (contents c.args.self.now) c.args.sender c.args.item.now
 answer c =
     let p = c.args.self.now in
-    c.check-put.ensures ∙ (λ i. put_checked (length c.args.item.now) (c.held-held.ensures i) (sym (length_items p) i) (c.sender-limit-sender-limit.ensures i) (c.others-others.ensures i) (c.size-byte-limit.ensures i))
+    c.check_put.ensures ∙ (λ i. put_checked (length c.args.item.now) (c.held-held.ensures i) (sym (length_items p) i) (c.sender_limit-sender_limit.ensures i) (c.others-others.ensures i) (c.size-byte_limit.ensures i))
 
-pub returns-in-err-check-put : goal.returns-in-err-check-put
-returns-in-err-check-put c =
-    let p = err_from_is_err_and c.from-residual.result c.from-residual.ensures.1 in
-    let v = p.1 ∙ ap (λ (e : Refusal). Err e) p.2 ∙ sym c.in-err-check-put.was ∙ answer (goal.at.returns-in-err-check-put c).After-check-put in
+pub returns-in_err-check_put : goal.returns-in_err-check_put
+returns-in_err-check_put c =
+    let p = err_from_is_err_and c.from_residual.result c.from_residual.ensures.1 in
+    let v = p.1 ∙ ap (λ (e : Refusal). Err e) p.2 ∙ sym c.in_err-check_put.was ∙ answer (goal.at.returns-in_err-check_put c).After-check_put in
     record {
       value = v;
       after = sym (ap (λ r. put_so r (contents c.args.self.now) c.args.sender c.args.item.now) (sym v ∙ p.1));
-      untouched = when_refused c.from-residual.result refl;
+      untouched = when_refused c.from_residual.result refl;
       memory = laid_as_it_stood c.args.self.now;
       lender = refl;
     }
@@ -35,7 +35,7 @@ insert-requires c =
     let s = c.args.sender in
     let x = c.args.item.now in
     let gone = c.remove.ensures.after in
-    let a : Admitted (contents p) s x = admitted (contents p) s x (lawful_of (contents p) p.lawful) (sym (answer (goal.at.insert-requires c).After-check-put) ∙ c.in-ok-check-put.was) in
+    let a : Admitted (contents p) s x = admitted (contents p) s x (lawful_of (contents p) p.lawful) (sym (answer (goal.at.insert-requires c).After-check_put) ∙ c.in_ok-check_put.was) in
     record {
       free = ap (λ (b : Contents). holds b.items s) gone ∙ free_without (contents p).items s;
       few = subst (λ (b : Contents). length b.items < b.sender_limit) (sym gone) a.few;
@@ -48,7 +48,7 @@ returns c =
     let p = c.args.self.now in
     let s = c.args.sender in
     let x = c.args.item.now in
-    let k = sym (answer (goal.at.returns c).After-check-put) ∙ c.in-ok-check-put.was in
+    let k = sym (answer (goal.at.returns c).After-check_put) ∙ c.in_ok-check_put.was in
     let q = c.remove.new.self in
     let is = (contents q).items in
     let js = with_item is (new_item s x) in

@@ -16,9 +16,9 @@ loop-i-preserved c =
     let t = c.loop-i-test.true in
     let i = c.loop-i.i in
     let g = aged_slot p.limits.life in
-    let e : c.age-slot.new.self.slots ≡ set q.slots i (g (get_or q.slots i empty_slot)) =
-    c.age-slot.ensures.after ∙ ap (λ (l : Limits). set q.slots i (aged_slot l.life (get_or q.slots i empty_slot))) c.loop-i.invariant.0 in
-    (c.age-slot.ensures.limits ∙ c.loop-i.invariant.0, ap (λ l. take (i + 1) l ++ map g (drop (i + 1) l)) e ∙ ages_more g q.slots i (omega arith) ∙ c.loop-i.invariant.1)
+    let e : c.age_slot.new.self.slots ≡ set q.slots i (g (get_or q.slots i empty_slot)) =
+    c.age_slot.ensures.after ∙ ap (λ (l : Limits). set q.slots i (aged_slot l.life (get_or q.slots i empty_slot))) c.loop-i.invariant.0 in
+    (c.age_slot.ensures.limits ∙ c.loop-i.invariant.0, ap (λ l. take (i + 1) l ++ map g (drop (i + 1) l)) e ∙ ages_more g q.slots i (omega arith) ∙ c.loop-i.invariant.1)
 
 pub returns : goal.returns
 returns c =
