@@ -5,26 +5,26 @@ use Rattle.record.proofs.reading.find_entry.Goals as goal
 pub pair-requires : goal.pair-requires
 pair-requires c = let h = behind_one _ _ _ _ _ c.loop-test.true c.loop.invariant.0 in omega arith
 
-pub overflow-add-result : goal.overflow-add-result
-overflow-add-result c = let h = behind_one _ _ _ _ _ c.loop-test.true c.loop.invariant.0 in search rules
+pub overflow_add-result : goal.overflow_add-result
+overflow_add-result c = let h = behind_one _ _ _ _ _ c.loop-test.true c.loop.invariant.0 in search rules
 
-pub overflow-add-result-then-pair-number : goal.overflow-add-result-then-pair-number
-overflow-add-result-then-pair-number c = let h = behind_one _ _ _ _ _ c.loop-test.true c.loop.invariant.0 in search rules
+pub overflow_add-result-then-pair-number : goal.overflow_add-result-then-pair-number
+overflow_add-result-then-pair-number c = let h = behind_one _ _ _ _ _ c.loop-test.true c.loop.invariant.0 in search rules
 
-pub overflow-add-result-then-pair-number-2 : goal.overflow-add-result-then-pair-number-2
-overflow-add-result-then-pair-number-2 c = let h = behind_one _ _ _ _ _ c.loop-test.true c.loop.invariant.0 in search rules
+pub overflow_add-result-then-pair-number-2 : goal.overflow_add-result-then-pair-number-2
+overflow_add-result-then-pair-number-2 c = let h = behind_one _ _ _ _ _ c.loop-test.true c.loop.invariant.0 in search rules
 
-pub slice-bounds-result-end : goal.slice-bounds-result-end
-slice-bounds-result-end c = let h = behind_one _ _ _ _ _ c.loop-test.true c.loop.invariant.0 in search rules
+pub slice_bounds-result-end : goal.slice_bounds-result-end
+slice_bounds-result-end c = let h = behind_one _ _ _ _ _ c.loop-test.true c.loop.invariant.0 in search rules
 
 pub returns-then-pair-number : goal.returns-then-pair-number
 returns-then-pair-number c = let h = found_here c.args.width c.args.number c.args.default.now c.args.entries.now c.args.count c.loop.counter c.loop.at c.loop-test.true (eq-eqb _ _ (sym c.pair.ensures.is ∙ c.if-pair-number.true)) in search rules
 
-pub overflow-add-at : goal.overflow-add-at
-overflow-add-at c = let h = behind_one _ _ _ _ _ c.loop-test.true c.loop.invariant.0 in search rules
+pub overflow_add-at : goal.overflow_add-at
+overflow_add-at c = let h = behind_one _ _ _ _ _ c.loop-test.true c.loop.invariant.0 in search rules
 
-pub overflow-add-at-in-loop : goal.overflow-add-at-in-loop
-overflow-add-at-in-loop c = let h = behind_one _ _ _ _ _ c.loop-test.true c.loop.invariant.0 in search rules
+pub overflow_add-at-in-loop : goal.overflow_add-at-in-loop
+overflow_add-at-in-loop c = let h = behind_one _ _ _ _ _ c.loop-test.true c.loop.invariant.0 in search rules
 
 pub loop-preserved : goal.loop-preserved
 loop-preserved c =

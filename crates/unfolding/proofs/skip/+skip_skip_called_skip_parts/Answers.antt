@@ -8,78 +8,78 @@ use Rattle.unfolding.proofs.Near.{split, blank}
 use Rattle.unfolding.proofs.Programs.{known_in, near_in, start_small, body_start, body_is}
 use Rattle.unfolding.proofs.skip.+skip_skip_called_skip_parts.Goals as goal
 
-pub skip-returns-in-default : goal.skip-returns-in-default
-skip-returns-in-default t c =
+pub skip-returns-in_default : goal.skip-returns-in_default
+skip-returns-in_default t c =
     let p = c.args.program.now in
-    let e = blank (shown p).shape.width (shown p).block (rows p) c.args.depth c.args.at (sym c.in-default.ensures) in
+    let e = blank (shown p).shape.width (shown p).block (rows p) c.args.depth c.args.at (sym c.in_default.ensures) in
     record { end = sym (ap (λ (x : Expr × ℕ). x.1) e); places = sym (ap (λ (x : Expr × ℕ). places x.0) e) }
 
-pub skip-parts-start-requires : goal.skip-parts-start-requires
-skip-parts-start-requires t c = start_small c.args.program.now c.args.at c.in-Some.e c.width.result c.requires.near c.in-Some.ensures c.width.ensures.is
+pub skip-parts_start-requires : goal.skip-parts_start-requires
+skip-parts_start-requires t c = start_small c.args.program.now c.args.at c.in-Some.e c.width.result c.requires.near c.in-Some.ensures c.width.ensures.is
 
-pub skip-skip-parts-end-requires : goal.skip-skip-parts-end-requires
-skip-skip-parts-end-requires t c =
-    let f = known_in c.args.program.now c.args.depth c.args.at c.in-Some.e c.count-parts.result c.parts-start.result c.width.result c.requires.near (omega arith) c.in-Some.ensures c.count-parts.ensures.is c.parts-start.ensures c.width.ensures.is in
+pub skip-skip_parts-end-requires : goal.skip-skip_parts-end-requires
+skip-skip_parts-end-requires t c =
+    let f = known_in c.args.program.now c.args.depth c.args.at c.in-Some.e c.count_parts.result c.parts_start.result c.width.result c.requires.near (omega arith) c.in-Some.ensures c.count_parts.ensures.is c.parts_start.ensures c.width.ensures.is in
     let m = c.decreases in
     let few = c.requires.few in
-    let n = c.count-parts.ensures.few in
+    let n = c.count_parts.ensures.few in
     let d = f.count in
     (omega arith, (f.near, omega arith))
 
-pub skip-skip-called-body-requires : goal.skip-skip-called-body-requires
-skip-skip-called-body-requires t c =
-    let f = known_in c.args.program.now c.args.depth c.args.at c.in-Some.e c.count-parts.result c.parts-start.result c.width.result c.requires.near (omega arith) c.in-Some.ensures c.count-parts.ensures.is c.parts-start.ensures c.width.ensures.is in
+pub skip-skip_called-body-requires : goal.skip-skip_called-body-requires
+skip-skip_called-body-requires t c =
+    let f = known_in c.args.program.now c.args.depth c.args.at c.in-Some.e c.count_parts.result c.parts_start.result c.width.result c.requires.near (omega arith) c.in-Some.ensures c.count_parts.ensures.is c.parts_start.ensures c.width.ensures.is in
     let m = c.decreases in
     let few = c.requires.few in
     let d = f.count in
     (omega arith, omega arith)
 
-pub skip-overflow-add-result : goal.skip-overflow-add-result
-skip-overflow-add-result t c =
-    let f = known_in c.args.program.now c.args.depth c.args.at c.in-Some.e c.count-parts.result c.parts-start.result c.width.result c.requires.near (omega arith) c.in-Some.ensures c.count-parts.ensures.is c.parts-start.ensures c.width.ensures.is in
+pub skip-overflow_add-result : goal.skip-overflow_add-result
+skip-overflow_add-result t c =
+    let f = known_in c.args.program.now c.args.depth c.args.at c.in-Some.e c.count_parts.result c.parts_start.result c.width.result c.requires.near (omega arith) c.in-Some.ensures c.count_parts.ensures.is c.parts_start.ensures c.width.ensures.is in
     let few = c.requires.few in
     let d = f.count in
-    let a = c.skip-parts-end.ensures.places in
-    let b = c.skip-called-body.ensures in
+    let a = c.skip_parts-end.ensures.places in
+    let b = c.skip_called-body.ensures in
     record { fits = omega arith }
 
-pub skip-overflow-add-result-2 : goal.skip-overflow-add-result-2
-skip-overflow-add-result-2 t c =
-    let f = known_in c.args.program.now c.args.depth c.args.at c.in-Some.e c.count-parts.result c.parts-start.result c.width.result c.requires.near (omega arith) c.in-Some.ensures c.count-parts.ensures.is c.parts-start.ensures c.width.ensures.is in
+pub skip-overflow_add-result-2 : goal.skip-overflow_add-result-2
+skip-overflow_add-result-2 t c =
+    let f = known_in c.args.program.now c.args.depth c.args.at c.in-Some.e c.count_parts.result c.parts_start.result c.width.result c.requires.near (omega arith) c.in-Some.ensures c.count_parts.ensures.is c.parts_start.ensures c.width.ensures.is in
     let few = c.requires.few in
     let d = f.count in
-    let a = c.skip-parts-end.ensures.places in
-    let b = c.skip-called-body.ensures in
-    let e = c.places-own.ensures in
+    let a = c.skip_parts-end.ensures.places in
+    let b = c.skip_called-body.ensures in
+    let e = c.places_own.ensures in
     record { fits = omega arith }
 
 pub skip-returns : goal.skip-returns
 skip-returns t c =
-    let f = known_in c.args.program.now c.args.depth c.args.at c.in-Some.e c.count-parts.result c.parts-start.result c.width.result c.requires.near (omega arith) c.in-Some.ensures c.count-parts.ensures.is c.parts-start.ensures c.width.ensures.is in
+    let f = known_in c.args.program.now c.args.depth c.args.at c.in-Some.e c.count_parts.result c.parts_start.result c.width.result c.requires.near (omega arith) c.in-Some.ensures c.count_parts.ensures.is c.parts_start.ensures c.width.ensures.is in
     let d = f.count in
-    let a = c.skip-parts-end.ensures.places in
-    let b = c.skip-called-body.ensures in
-    let e = c.places-own.ensures in
-    record { end = c.skip-parts-end.ensures.end ∙ sym f.end; places = omega arith }
+    let a = c.skip_parts-end.ensures.places in
+    let b = c.skip_called-body.ensures in
+    let e = c.places_own.ensures in
+    record { end = c.skip_parts-end.ensures.end ∙ sym f.end; places = omega arith }
 
-pub skip-called-skip-places-requires : goal.skip-called-skip-places-requires
-skip-called-skip-places-requires t c =
+pub skip_called-skip-places-requires : goal.skip_called-skip-places-requires
+skip_called-skip-places-requires t c =
     let p = c.args.program.now in
     let q = body_is (rows p) (unfolded_in p c.args.depth) c.args.e c.in-Call.n c.function.result c.in-Call.is c.function.ensures in
     let m = c.decreases in
     let few = c.requires.few in
     (omega arith, (body_start p c.in-Call.n c.function.result c.function.ensures, omega arith))
 
-pub skip-parts-skip-next-requires : goal.skip-parts-skip-next-requires
-skip-parts-skip-next-requires t c =
+pub skip_parts-skip-next-requires : goal.skip_parts-skip-next-requires
+skip_parts-skip-next-requires t c =
     let s = split (unfolded_in c.args.program.now c.args.depth) c.args.count c.args.at (omega arith) in
     let m = c.decreases in
     let d = s.count in
     let few = c.requires.few in
     (omega arith, (c.requires.near, omega arith))
 
-pub skip-parts-skip-parts-end-requires : goal.skip-parts-skip-parts-end-requires
-skip-parts-skip-parts-end-requires t c =
+pub skip_parts-skip_parts-end-requires : goal.skip_parts-skip_parts-end-requires
+skip_parts-skip_parts-end-requires t c =
     let p = c.args.program.now in
     let read = unfolded_in p c.args.depth in
     let s = split (unfolded_in c.args.program.now c.args.depth) c.args.count c.args.at (omega arith) in
@@ -91,21 +91,21 @@ skip-parts-skip-parts-end-requires t c =
     let q = ap (λ n. places_all (listed read (c.args.count - 1) n).0) e in
     (omega arith, (omega arith, omega arith))
 
-pub skip-parts-overflow-add-result : goal.skip-parts-overflow-add-result
-skip-parts-overflow-add-result t c =
+pub skip_parts-overflow_add-result : goal.skip_parts-overflow_add-result
+skip_parts-overflow_add-result t c =
     let read = unfolded_in c.args.program.now c.args.depth in
     let s = split (unfolded_in c.args.program.now c.args.depth) c.args.count c.args.at (omega arith) in
     let d = s.count in
     let few = c.requires.few in
     let a = c.skip-next.ensures.places in
-    let b = c.skip-parts-end.ensures.places ∙ ap (λ n. places_all (listed read (c.args.count - 1) n).0) c.skip-next.ensures.end in
+    let b = c.skip_parts-end.ensures.places ∙ ap (λ n. places_all (listed read (c.args.count - 1) n).0) c.skip-next.ensures.end in
     record { fits = omega arith }
 
-pub skip-parts-returns : goal.skip-parts-returns
-skip-parts-returns t c =
+pub skip_parts-returns : goal.skip_parts-returns
+skip_parts-returns t c =
     let read = unfolded_in c.args.program.now c.args.depth in
     let s = split (unfolded_in c.args.program.now c.args.depth) c.args.count c.args.at (omega arith) in
     let d = s.count in
     let a = c.skip-next.ensures.places in
-    let b = c.skip-parts-end.ensures.places ∙ ap (λ n. places_all (listed read (c.args.count - 1) n).0) c.skip-next.ensures.end in
-    record { end = c.skip-parts-end.ensures.end ∙ ap (λ n. (listed read (c.args.count - 1) n).1) c.skip-next.ensures.end ∙ sym s.end; places = omega arith }
+    let b = c.skip_parts-end.ensures.places ∙ ap (λ n. places_all (listed read (c.args.count - 1) n).0) c.skip-next.ensures.end in
+    record { end = c.skip_parts-end.ensures.end ∙ ap (λ n. (listed read (c.args.count - 1) n).1) c.skip-next.ensures.end ∙ sym s.end; places = omega arith }

@@ -5,8 +5,8 @@ use Rattle.unfolding.proofs.skip.+skip_skip_called_skip_parts.Given as goal
 abbrev pub decreases-skip : goal.decreases-skip
 decreases-skip l = 300 * l.depth
 
-abbrev pub decreases-skip-called : goal.decreases-skip-called
-decreases-skip-called l = 300 * l.depth + 1
+abbrev pub decreases-skip_called : goal.decreases-skip_called
+decreases-skip_called l = 300 * l.depth + 1
 
-abbrev pub decreases-skip-parts : goal.decreases-skip-parts
-decreases-skip-parts l = 300 * l.depth + l.count + 1
+abbrev pub decreases-skip_parts : goal.decreases-skip_parts
+decreases-skip_parts l = 300 * l.depth + l.count + 1

@@ -3,7 +3,7 @@ use Rattle.std.proofs.lemmas.List.{drop_all}
 use Rattle.slot_inbox.specs.Slots.{empty_slot, gathered, slot_item}
 use Rattle.slot_inbox.proofs.Gathers.{drop_held, drop_free, length_with}
 use Rattle.slot_inbox.proofs.slot_inbox.SlotInbox.count.Goals as goal
-use Rattle.slot_inbox.proofs.slot_inbox.SlotInbox.count.Goals.{Then-self-i, Else-self-i}
+use Rattle.slot_inbox.proofs.slot_inbox.SlotInbox.count.Goals.{then-self-i, else-self-i}
 
 pub loop-i-preserved : goal.loop-i-preserved
 loop-i-preserved c =
