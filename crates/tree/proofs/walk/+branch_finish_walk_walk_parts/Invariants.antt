@@ -10,5 +10,5 @@ decreases-walk g l = 300 * l.depth + 1
 abbrev pub decreases-finish : goal.decreases-finish
 decreases-finish g l = 300 * l.depth + 2
 
-abbrev pub decreases-walk-parts : goal.decreases-walk-parts
-decreases-walk-parts g l = 300 * l.depth + l.count + 2
+abbrev pub decreases-walk_parts : goal.decreases-walk_parts
+decreases-walk_parts g l = 300 * l.depth + l.count + 2
