@@ -3,18 +3,18 @@ use Rattle.cursor.specs.Cursors.{said_choice}
 use Rattle.cursor.proofs.Saying.{nothing_said, choice_said}
 use Rattle.cursor.proofs.cursor.choice_at.Goals as goal
 
-pub returns-then-not-has-place : goal.returns-then-not-has-place
-returns-then-not-has-place g c = λ rs low number readable stands le.
+pub returns-then-not-has_place : goal.returns-then-not-has_place
+returns-then-not-has_place g c = λ rs low number readable stands le.
     let here = c.seek-at.ensures.stands rs low readable stands le in
-    sym (ap said_choice (nothing_said g.K.Kind.meaning g.met.K.Kind.lawful readable here c.seek-at.ensures.stops c.if-not-has-place.ensures number))
+    sym (ap said_choice (nothing_said g.K.Kind.meaning g.met.K.Kind.lawful readable here c.seek-at.ensures.stops c.if-not-has_place.ensures number))
 
 pub returns-in-Ok : goal.returns-in-Ok
 returns-in-Ok g c = λ rs low number readable stands le.
     let here = c.seek-at.ensures.stands rs low readable stands le in
-    let said = choice_said g.K.Kind.meaning g.met.K.Kind.lawful readable here c.seek-at.ensures.stops c.if-not-has-place.ensures number _ c.value-width.ensures.is _ c.in-Ok.ensures.is in
+    let said = choice_said g.K.Kind.meaning g.met.K.Kind.lawful readable here c.seek-at.ensures.stops c.if-not-has_place.ensures number _ c.value_width.ensures.is _ c.in-Ok.ensures.is in
     search rules
 
 pub returns-in-Err : goal.returns-in-Err
 returns-in-Err g c = λ rs low number readable stands le.
     let here = c.seek-at.ensures.stands rs low readable stands le in
-    choice_said g.K.Kind.meaning g.met.K.Kind.lawful readable here c.seek-at.ensures.stops c.if-not-has-place.ensures number _ c.value-width.ensures.is _ c.in-Err.ensures.is
+    choice_said g.K.Kind.meaning g.met.K.Kind.lawful readable here c.seek-at.ensures.stops c.if-not-has_place.ensures number _ c.value_width.ensures.is _ c.in-Err.ensures.is

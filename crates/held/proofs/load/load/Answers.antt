@@ -6,8 +6,8 @@ pub loop-sender-init : goal.loop-sender-init
 loop-sender-init g c =
     sofar_start g.K.Kind.meaning c.args.program.now c.args.node (g.I.Inbox.meaning c.args.inbox.now).items c.args.bytes.now _ _ _ refl refl (omega arith)
 
-pub read-item-size-requires : goal.read-item-size-requires
-read-item-size-requires g c =
+pub read_item-size-requires : goal.read_item-size-requires
+read_item-size-requires g c =
     let s = c.loop-sender.slots in
     let free : s.1.1.0 < 16 =
     sofar_free g.K.Kind.meaning c.args.program.now c.args.node (g.I.Inbox.meaning c.args.inbox.now) (g.I.Inbox.lawful c.args.inbox.now)
@@ -22,8 +22,8 @@ keep-slots-requires g c =
       free =
           sofar_free g.K.Kind.meaning c.args.program.now c.args.node (g.I.Inbox.meaning c.args.inbox.now) (g.I.Inbox.lawful c.args.inbox.now)
           c.loop-sender.bytes s.0 s.1.0 s.1.1.0 c.loop-sender.from c.loop-sender.invariant c.in-Some.sender (sym c.next.ensures ∙ c.in-Some.is);
-      short = c.read-item-size.ensures.fits;
-      room = omega (arith, c.loop-sender.auto.bytes, c.requires.room, c.read-item-size.auto.bytes);
+      short = c.read_item-size.ensures.fits;
+      room = omega (arith, c.loop-sender.auto.bytes, c.requires.room, c.read_item-size.auto.bytes);
     }
 
 pub returns-then-sender : goal.returns-then-sender
@@ -31,7 +31,7 @@ returns-then-sender g c =
     let s = c.loop-sender.slots in
     sofar_last g.K.Kind.meaning c.args.program.now c.args.node (g.I.Inbox.meaning c.args.inbox.now) (g.I.Inbox.lawful c.args.inbox.now)
     c.loop-sender.bytes s.0 s.1.0 s.1.1.0 c.loop-sender.from c.loop-sender.invariant c.in-Some.sender (sym c.next.ensures ∙ c.in-Some.is)
-    (omega (arith, c.loop-sender.auto.bytes, c.requires.room)) c.read-item-size.new.bytes c.read-item-size.result c.read-item-size.ensures
+    (omega (arith, c.loop-sender.auto.bytes, c.requires.room)) c.read_item-size.new.bytes c.read_item-size.result c.read_item-size.ensures
     _ c.keep-slots.result refl refl refl c.keep-slots.ensures c.if-sender.true _ refl refl refl
 
 pub loop-sender-smaller : goal.loop-sender-smaller
@@ -47,11 +47,11 @@ loop-sender-preserved g c =
     let s = c.loop-sender.slots in
     sofar_again g.K.Kind.meaning c.args.program.now c.args.node (g.I.Inbox.meaning c.args.inbox.now) (g.I.Inbox.lawful c.args.inbox.now)
     c.loop-sender.bytes s.0 s.1.0 s.1.1.0 c.loop-sender.from c.loop-sender.invariant c.in-Some.sender (sym c.next.ensures ∙ c.in-Some.is)
-    (omega (arith, c.loop-sender.auto.bytes, c.requires.room)) c.read-item-size.new.bytes c.read-item-size.result c.read-item-size.ensures
+    (omega (arith, c.loop-sender.auto.bytes, c.requires.room)) c.read_item-size.new.bytes c.read_item-size.result c.read_item-size.ensures
     _ c.keep-slots.result refl refl refl c.keep-slots.ensures
 
 pub returns : goal.returns
 returns g c =
     let s = c.loop-sender.slots in
     sofar_done g.K.Kind.meaning c.args.program.now c.args.node (g.I.Inbox.meaning c.args.inbox.now) (g.I.Inbox.lawful c.args.inbox.now)
-    c.loop-sender.bytes s.0 s.1.0 s.1.1.0 c.loop-sender.from c.loop-sender.invariant (sym c.next.ensures ∙ c.in-default.is) _ refl refl refl
+    c.loop-sender.bytes s.0 s.1.0 s.1.1.0 c.loop-sender.from c.loop-sender.invariant (sym c.next.ensures ∙ c.in_default.is) _ refl refl refl

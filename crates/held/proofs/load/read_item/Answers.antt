@@ -10,7 +10,7 @@ returns-in-Ok g c =
     let contents = g.I.Inbox.meaning c.args.inbox.now in
     subst
     (λ (n : ℕ). ReadsItem contents c.args.sender c.args.start c.args.bytes.now (put_mid c.args.start ((c.args.start + longest_item) - c.args.start) c.args.bytes.now c.read.new.buffer) n)
-    (ap answer_size c.in-Ok.is ∙ sym c.unwrap-or.ensures)
+    (ap answer_size c.in-Ok.is ∙ sym c.unwrap_or.ensures)
     (reads_item contents (g.I.Inbox.lawful c.args.inbox.now) c.args.sender c.args.start c.args.bytes.now c.requires.room c.read.new.buffer c.read.result c.read.ensures.after c.read.ensures.value)
 
 pub returns-in-Err : goal.returns-in-Err

@@ -3,8 +3,8 @@ use Rattle.sending.proofs.Entries.{others_next, others_few}
 use Rattle.sending.proofs.sent.count_other.Goals.{then-not-same, else-not-same}
 use Rattle.sending.proofs.sent.count_other.Goals as goal
 
-pub overflow-add-count : goal.overflow-add-count
-overflow-add-count g c =
+pub overflow_add-count : goal.overflow_add-count
+overflow_add-count g c =
     let few = others_few g.K.Kind.meaning c.args.default c.loop-i.i (drop c.args.first c.args.rows.now.cells.now) in
     let is = c.loop-i.invariant in
     omega (arith, few, is)

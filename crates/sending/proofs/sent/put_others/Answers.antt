@@ -6,8 +6,8 @@ use Rattle.sending.proofs.Entries.{kept_next, written_both}
 use Rattle.sending.proofs.Puts.{room_for_one}
 use Rattle.sending.proofs.sent.put_others.Goals as goal
 
-pub put-other-requires : goal.put-other-requires
-put-other-requires g c =
+pub put_other-requires : goal.put_other-requires
+put_other-requires g c =
     room_for_one g.K.Kind.meaning g.met.K.Kind.lawful c.args.default c.args.numbers.now (drop c.args.first c.args.rows.now.cells.now) c.loop-i.i c.loop-i-test.true c.loop-i.invariant.1 c.requires.room
 
 pub loop-i-preserved : goal.loop-i-preserved
@@ -22,7 +22,7 @@ loop-i-preserved g c =
     let long = length-drop c.args.first cells in
     let next = kept_next k d ns xs i _ x c.loop-i-test.true (omega arith) refl (c.cell.ensures x ∙ sym (get_or-drop c.args.first cells i x)) in
     let bytes = written_both k (kept k d (take i ns) xs) _ in
-    (c.put-other.ensures.named ∙ c.loop-i.invariant.0, rw add-one (grown_is (sym (ap (written_entries k) next ∙ bytes)) (grown_after c.loop-i.invariant.1 c.put-other.ensures.grown)))
+    (c.put_other.ensures.named ∙ c.loop-i.invariant.0, rw add-one (grown_is (sym (ap (written_entries k) next ∙ bytes)) (grown_after c.loop-i.invariant.1 c.put_other.ensures.grown)))
 
 pub returns : goal.returns
 returns g c =
