@@ -8,7 +8,7 @@ loop-j-preserved g c =
     let long = c.loop-j.invariant.0 in
     let short : c.loop-j.j < length c.loop-j.senders = omega (arith, few, long) in (
       length-set c.loop-j.senders _ _ ∙ long,
-      each_more (λ i to. Moves g.K.Kind.meaning c.args.x.now c.args.place i (get_or c.args.cursors.now.senders i 0) to) 0 c.loop-j.senders c.loop-j.j _ short c.loop-j.invariant.1 c.seek-sender.ensures,
+      each_more (λ i to. Moves g.K.Kind.meaning c.args.x.now c.args.place i (get_or c.args.cursors.now.senders i 0) to) 0 c.loop-j.senders c.loop-j.j _ short c.loop-j.invariant.1 c.seek_sender.ensures,
     )
 
 pub returns : goal.returns

@@ -15,7 +15,7 @@ bounds-rows-base g c =
 
 pub loop-i-preserved : goal.loop-i-preserved
 loop-i-preserved g c =
-    more_filled c.args.rows.now c.loop-i.rows _ c.args.base c.loop-i.i c.linked-cell.result c.loop-i.invariant refl refl refl (omega arith) c.linked-cell.ensures
+    more_filled c.args.rows.now c.loop-i.rows _ c.args.base c.loop-i.i c.linked_cell.result c.loop-i.invariant refl refl refl (omega arith) c.linked_cell.ensures
 
 pub returns : goal.returns
 returns g c =

@@ -15,7 +15,7 @@ bounds-rows-base g c =
 
 pub loop-i-preserved : goal.loop-i-preserved
 loop-i-preserved g c =
-    more_filled c.args.rows.now c.loop-i.rows _ c.args.base c.loop-i.i c.received-cell.result c.loop-i.invariant refl refl refl (omega arith) c.received-cell.ensures
+    more_filled c.args.rows.now c.loop-i.rows _ c.args.base c.loop-i.i c.received_cell.result c.loop-i.invariant refl refl refl (omega arith) c.received_cell.ensures
 
 pub returns : goal.returns
 returns g c =

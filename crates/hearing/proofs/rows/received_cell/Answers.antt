@@ -14,10 +14,10 @@ returns-then-i-eq1 g c =
     let initial = c.args.initial in
     record {
       is = λ h al low gives flags stands le.
-          let value : c.value-at.result ≡ said_value (says h.number p h.last) =
-          c.value-at.ensures h.last low gives.last stands.own le ∙ ap (λ (n : ℕ). said_value (says n p h.last)) (sym gives.number) in
+          let value : c.value_at.result ≡ said_value (says h.number p h.last) =
+          c.value_at.ensures h.last low gives.last stands.own le ∙ ap (λ (n : ℕ). said_value (says n p h.last)) (sym gives.number) in
           let here : c.args.i ≡ 1 = omega arith in
-          c.said-or.ensures
+          c.said_or.ensures
           ∙ ap (λ (o : Option g.row.K-Value.Denot). unwrap_or o initial) value
           ∙ or_else_said initial (says h.number p h.last)
           ∙ sym (ap (λ (n : ℕ). received h al p initial (spot_of h n)) here ∙ received_own h al p initial);
@@ -38,14 +38,14 @@ returns g c =
           let many = gives.held.many in
           let lt : j < length h.held = omega arith in
           let tree : c.tree-tree.result.now ≡ tree_of k x j =
-          c.tree-tree.ensures ∙ ap (λ (w : ℕ). slot_tree w x.bytes.now x.slots.now j) c.value-width.ensures.is in
-          let value : c.value-at-said.result ≡ said_value (says h.number p rs) =
-          c.value-at-said.ensures rs low
+          c.tree-tree.ensures ∙ ap (λ (w : ℕ). slot_tree w x.bytes.now x.slots.now j) c.value_width.ensures.is in
+          let value : c.value_at-said.result ≡ said_value (says h.number p rs) =
+          c.value_at-said.ensures rs low
           (subst (λ (m : List ℕ). Readable k m rs) (sym tree) (gives.trees j d lt))
           (subst (λ (m : List ℕ). Stands k m rs low (get_or c.args.cursors.now.senders j 0)) (sym tree) (stands.senders j d lt))
           le
           ∙ ap (λ (n : ℕ). said_value (says n p rs)) (sym gives.number) in
-          c.said-or-2.ensures
+          c.said_or-2.ensures
           ∙ (λ m. cond (flags.is j d lt m) (unwrap_or (value m) initial) initial)
           ∙ ap (λ v. cond (al (get_or h.held j d).number) v initial) (or_else_said initial (says h.number p rs))
           ∙ sym (ap (received h al p initial) (spot_held h i j d (omega arith) lt) ∙ received_held h al p initial gives.orderly j d lt);

@@ -21,7 +21,7 @@ loop-i-preserved g c =
     let asked : cond {A = ℕ} (k.same x d) 0 1 ≡ cond c.same.result 0 1 = ap (λ (b : Bool). cond b 0 1) (sym c.same.ensures) in
     let more : c.if-not-same.count ≡ c.loop-i.count + cond c.same.result 0 1 =
     elim c.if-not-same.branch [
-      | then-not-same w ↦ w.count_is ∙ ap (λ (b : Bool). c.loop-i.count + cond b 0 1) (sym w.if-not-same.true)
-      | else-not-same w ↦ w.count_is ∙ (let z : c.loop-i.count ≡ c.loop-i.count + 0 = omega arith in z) ∙ ap (λ (b : Bool). c.loop-i.count + cond b 0 1) (sym w.if-not-same.false)
+      | then-not-same w ↦ w.count-is ∙ ap (λ (b : Bool). c.loop-i.count + cond b 0 1) (sym w.if-not-same.true)
+      | else-not-same w ↦ w.count-is ∙ (let z : c.loop-i.count ≡ c.loop-i.count + 0 = omega arith in z) ∙ ap (λ (b : Bool). c.loop-i.count + cond b 0 1) (sym w.if-not-same.false)
     ] in
     rw add-one (more ∙ (λ j. c.loop-i.invariant j + sym asked j) ∙ sym next)
