@@ -61,8 +61,8 @@ bind-returns g t c =
       worked = done.bind_done k g.met.K.Kind.lawful x flags f base d from m r c.with-inner.result (base + c.work-next.new.rows.width) c.work-next.result.0 c.work-end.result.0 n o c.copy.new.self c.requires.step refl c.with-inner.ensures c.work-next.ensures.worked c.work-end.ensures.worked c.copy.ensures;
     }
 
-pub work-parts-returns-then-count-eq0 : goal.work-parts-returns-then-count-eq0
-work-parts-returns-then-count-eq0 g t c =
+pub work_parts-returns-then-count-eq0 : goal.work_parts-returns-then-count-eq0
+work_parts-returns-then-count-eq0 g t c =
     let k = g.K.Kind.meaning in
     let x = c.args.x.now in
     let r = c.requires.ready in
@@ -74,8 +74,8 @@ work-parts-returns-then-count-eq0 g t c =
     let m = machine c.args.rows.now c.args.output.now c.args.cursors.now c.args.task.place in
     record { named = refl; worked = done.none_done k g.met.K.Kind.lawful x flags f base d c.args.count from m (omega arith) }
 
-pub work-parts-work-next-requires : goal.work-parts-work-next-requires
-work-parts-work-next-requires g t c κs within =
+pub work_parts-work-next-requires : goal.work_parts-work-next-requires
+work_parts-work-next-requires g t c κs within =
     let k = g.K.Kind.meaning in
     let x = c.args.x.now in
     let r = c.requires.ready in
@@ -89,8 +89,8 @@ work-parts-work-next-requires g t c κs within =
     let me = c.decreases in
     (omega arith, (within.0, (within.1, ready.head_ready k x flags f base d c.args.count from m (omega arith) r)))
 
-pub work-parts-work-parts-requires : goal.work-parts-work-parts-requires
-work-parts-work-parts-requires g t c κs within =
+pub work_parts-work_parts-requires : goal.work_parts-work_parts-requires
+work_parts-work_parts-requires g t c κs within =
     let k = g.K.Kind.meaning in
     let x = c.args.x.now in
     let r = c.requires.ready in
@@ -105,8 +105,8 @@ work-parts-work-parts-requires g t c κs within =
     let me = c.decreases in
     (omega arith, (within.0, (within.1, (ready.tail_ready k x flags f base (base + c.work-next.new.rows.width) d c.args.count from c.work-next.result.0 c.work-next.result.1 m n (omega arith) r refl refl c.work-next.ensures.worked, omega arith))))
 
-pub work-parts-returns : goal.work-parts-returns
-work-parts-returns g t c =
+pub work_parts-returns : goal.work_parts-returns
+work_parts-returns g t c =
     let k = g.K.Kind.meaning in
     let x = c.args.x.now in
     let r = c.requires.ready in
@@ -117,14 +117,14 @@ work-parts-returns g t c =
     let from = c.args.task.at in
     let m = machine c.args.rows.now c.args.output.now c.args.cursors.now c.args.task.place in
     let n = machine c.work-next.new.rows c.work-next.new.output c.work-next.new.cursors c.work-next.result.1 in
-    let o = machine c.work-parts.new.rows c.work-parts.new.output c.work-parts.new.cursors c.work-parts.result.1 in
+    let o = machine c.work_parts.new.rows c.work_parts.new.output c.work_parts.new.cursors c.work_parts.result.1 in
     record {
-      named = c.work-parts.ensures.named ∙ c.work-next.ensures.named;
-      worked = done.next_done k g.met.K.Kind.lawful x flags f base (base + c.work-next.new.rows.width) d c.args.count from c.work-next.result.0 c.work-parts.result.0 m n o r (omega arith) refl c.work-next.ensures.worked c.work-parts.ensures.worked;
+      named = c.work_parts.ensures.named ∙ c.work-next.ensures.named;
+      worked = done.next_done k g.met.K.Kind.lawful x flags f base (base + c.work-next.new.rows.width) d c.args.count from c.work-next.result.0 c.work_parts.result.0 m n o r (omega arith) refl c.work-next.ensures.worked c.work_parts.ensures.worked;
     }
 
-pub compute-work-parts-end-requires : goal.compute-work-parts-end-requires
-compute-work-parts-end-requires g t c κs within =
+pub compute-work_parts-end-requires : goal.compute-work_parts-end-requires
+compute-work_parts-end-requires g t c κs within =
     let k = g.K.Kind.meaning in
     let x = c.args.x.now in
     let r = c.requires.ready in
@@ -136,9 +136,9 @@ compute-work-parts-end-requires g t c κs within =
     let m = machine c.args.rows.now c.args.output.now c.args.cursors.now c.args.task.place in
     let deep = ready.deep_ready k x flags f base d from m r in
     let ga = ready.gathers k x c.args.e c.requires.parts in
-    let few = ready.parts_few k x c.args.e ga c.count-parts-count.result c.count-parts-count.ensures.is in
+    let few = ready.parts_few k x c.args.e ga c.count_parts-count.result c.count_parts-count.ensures.is in
     let me = c.decreases in
-    (omega arith, (within.0, (within.1, (ready.parts_ready k x flags f base d from c.count-parts-count.result c.parts-start-start.result m r c.args.e ga c.requires.step c.count-parts-count.ensures.is (c.parts-start-start.ensures ∙ ap (λ (v : ℕ). start v from c.args.e) c.width.ensures.is), few))))
+    (omega arith, (within.0, (within.1, (ready.parts_ready k x flags f base d from c.count_parts-count.result c.parts_start-start.result m r c.args.e ga c.requires.step c.count_parts-count.ensures.is (c.parts_start-start.ensures ∙ ap (λ (v : ℕ). start v from c.args.e) c.width.ensures.is), few))))
 
 pub compute-returns : goal.compute-returns
 compute-returns g t c =
@@ -151,14 +151,14 @@ compute-returns g t c =
     let d = c.args.task.depth in
     let from = c.args.task.at in
     let m = machine c.args.rows.now c.args.output.now c.args.cursors.now c.args.task.place in
-    let n = machine c.work-parts-end.new.rows c.work-parts-end.new.output c.work-parts-end.new.cursors c.work-parts-end.result.1 in
+    let n = machine c.work_parts-end.new.rows c.work_parts-end.new.output c.work_parts-end.new.cursors c.work_parts-end.result.1 in
     record {
-      named = c.work-parts-end.ensures.named;
-      worked = done.compute_done k g.met.K.Kind.lawful x flags f base d from m r c.args.e c.count-parts-count.result c.parts-start-start.result c.work-parts-end.result.0 n c.finish.new.rows c.requires.parts c.requires.step c.count-parts-count.ensures.is (c.parts-start-start.ensures ∙ ap (λ (v : ℕ). start v from c.args.e) c.width.ensures.is) c.work-parts-end.ensures.worked c.finish.ensures;
+      named = c.work_parts-end.ensures.named;
+      worked = done.compute_done k g.met.K.Kind.lawful x flags f base d from m r c.args.e c.count_parts-count.result c.parts_start-start.result c.work_parts-end.result.0 n c.finish.new.rows c.requires.parts c.requires.step c.count_parts-count.ensures.is (c.parts_start-start.ensures ∙ ap (λ (v : ℕ). start v from c.args.e) c.width.ensures.is) c.work_parts-end.ensures.worked c.finish.ensures;
     }
 
-pub call-work-parts-end-requires : goal.call-work-parts-end-requires
-call-work-parts-end-requires g t c κs within =
+pub call-work_parts-end-requires : goal.call-work_parts-end-requires
+call-work_parts-end-requires g t c κs within =
     let k = g.K.Kind.meaning in
     let x = c.args.x.now in
     let r = c.requires.ready in
@@ -186,7 +186,7 @@ call-arguments-top-requires g t c =
     let m = machine c.args.rows.now c.args.output.now c.args.cursors.now c.args.task.place in
     let deep = ready.deep_ready k x flags f base d from m r in
     let few = ready.parts_few k x (Call c.args.n) tt c.function-called.result.parameters (ap (λ (h : Function). h.parameters) c.function-called.ensures) in
-    let l = ready.left k x c.work-parts-end.ensures.worked in
+    let l = ready.left k x c.work_parts-end.ensures.worked in
     let lw = l.width in
     let ll = l.long in
     let cells = r.cells_are in
@@ -206,9 +206,9 @@ call-work-after-requires g t c κs within =
     let from = c.args.task.at in
     let m = machine c.args.rows.now c.args.output.now c.args.cursors.now c.args.task.place in
     let deep = ready.deep_ready k x flags f base d from m r in
-    let n = machine c.work-parts-end.new.rows c.work-parts-end.new.output c.work-parts-end.new.cursors c.work-parts-end.result.1 in
+    let n = machine c.work_parts-end.new.rows c.work_parts-end.new.output c.work_parts-end.new.cursors c.work_parts-end.result.1 in
     let me = c.decreases in
-    (omega arith, (within.0, (within.1, ready.body_ready k x flags f c.arguments-top.result.0 base c.arguments-top.result.1 d from c.function-called.result.parameters c.args.n c.function-called.result.start c.work-parts-end.result.0 c.work-parts-end.result.1 m n r c.requires.step (ap (λ (h : Function). h.parameters) c.function-called.ensures) (ap (λ (h : Function). h.start) c.function-called.ensures) c.arguments-top.ensures.top refl c.arguments-top.ensures.rows c.work-parts-end.ensures.worked)))
+    (omega arith, (within.0, (within.1, ready.body_ready k x flags f c.arguments-top.result.0 base c.arguments-top.result.1 d from c.function-called.result.parameters c.args.n c.function-called.result.start c.work_parts-end.result.0 c.work_parts-end.result.1 m n r c.requires.step (ap (λ (h : Function). h.parameters) c.function-called.ensures) (ap (λ (h : Function). h.start) c.function-called.ensures) c.arguments-top.ensures.top refl c.arguments-top.ensures.rows c.work_parts-end.ensures.worked)))
 
 pub call-copy-requires : goal.call-copy-requires
 call-copy-requires g t c =
@@ -223,7 +223,7 @@ call-copy-requires g t c =
     let m = machine c.args.rows.now c.args.output.now c.args.cursors.now c.args.task.place in
     let deep = ready.deep_ready k x flags f base d from m r in
     let few = ready.parts_few k x (Call c.args.n) tt c.function-called.result.parameters (ap (λ (h : Function). h.parameters) c.function-called.ensures) in
-    let l = ready.left k x c.work-parts-end.ensures.worked in
+    let l = ready.left k x c.work_parts-end.ensures.worked in
     let lw = l.width in
     let ll = l.long in
     let cells = r.cells_are in
@@ -233,7 +233,7 @@ call-copy-requires g t c =
     let lw' = l'.width in
     let ll' = l'.long in
     let tp = c.arguments-top.ensures.top in
-    let most = row_after_most c.work-parts-end.new.rows.width base c.function-called.result.parameters (omega arith) in
+    let most = row_after_most c.work_parts-end.new.rows.width base c.function-called.result.parameters (omega arith) in
     record { room = omega arith; there = omega arith }
 
 pub call-returns : goal.call-returns
@@ -247,11 +247,11 @@ call-returns g t c =
     let d = c.args.task.depth in
     let from = c.args.task.at in
     let m = machine c.args.rows.now c.args.output.now c.args.cursors.now c.args.task.place in
-    let n = machine c.work-parts-end.new.rows c.work-parts-end.new.output c.work-parts-end.new.cursors c.work-parts-end.result.1 in
+    let n = machine c.work_parts-end.new.rows c.work_parts-end.new.output c.work_parts-end.new.cursors c.work_parts-end.result.1 in
     let o = machine c.work-after.new.rows c.work-after.new.output c.work-after.new.cursors c.work-after.result.1 in
     record {
-      named = c.work-after.ensures.named ∙ c.work-parts-end.ensures.named;
-      worked = done.call_done k g.met.K.Kind.lawful x flags f base d from m r c.arguments-top.result.0 c.args.n c.function-called.result.parameters c.function-called.result.start c.arguments-top.result.1 c.work-parts-end.result.0 c.work-after.result.0 n o c.copy.new.self c.requires.step (ap (λ (h : Function). h.parameters) c.function-called.ensures) (ap (λ (h : Function). h.start) c.function-called.ensures) c.arguments-top.ensures.top c.arguments-top.ensures.rows c.work-parts-end.ensures.worked c.work-after.ensures.worked c.copy.ensures;
+      named = c.work-after.ensures.named ∙ c.work_parts-end.ensures.named;
+      worked = done.call_done k g.met.K.Kind.lawful x flags f base d from m r c.arguments-top.result.0 c.args.n c.function-called.result.parameters c.function-called.result.start c.arguments-top.result.1 c.work_parts-end.result.0 c.work-after.result.0 n o c.copy.new.self c.requires.step (ap (λ (h : Function). h.parameters) c.function-called.ensures) (ap (λ (h : Function). h.start) c.function-called.ensures) c.arguments-top.ensures.top c.arguments-top.ensures.rows c.work_parts-end.ensures.worked c.work-after.ensures.worked c.copy.ensures;
     }
 
 pub exchange-work-next-requires : goal.exchange-work-next-requires
@@ -269,8 +269,8 @@ exchange-work-next-requires g t c κs within =
     let me = c.decreases in
     (omega arith, (within.0, (within.1, ready.first_ready k x flags f base d from m r c.args.e (ready.sends_first k x c.args.e c.requires.sends) c.requires.step)))
 
-pub exchange-skip-parts-inside-requires : goal.exchange-skip-parts-inside-requires
-exchange-skip-parts-inside-requires g t c =
+pub exchange-skip_parts-inside-requires : goal.exchange-skip_parts-inside-requires
+exchange-skip_parts-inside-requires g t c =
     let k = g.K.Kind.meaning in
     let x = c.args.x.now in
     let r = c.requires.ready in
@@ -281,8 +281,8 @@ exchange-skip-parts-inside-requires g t c =
     let from = c.args.task.at in
     let m = machine c.args.rows.now c.args.output.now c.args.cursors.now c.args.task.place in
     let n = machine c.work-next.new.rows c.work-next.new.output c.work-next.new.cursors c.work-next.result.1 in
-    let cs = ap (λ (z : ℕ). z - 1) c.part-count-count.ensures in
-    let s = ready.spread k x flags f base d from c.work-next.result.0 (c.part-count-count.result - 1) m n r c.args.e c.requires.sends c.requires.step cs c.work-next.ensures.worked in
+    let cs = ap (λ (z : ℕ). z - 1) c.part_count-count.ensures in
+    let s = ready.spread k x flags f base d from c.work-next.result.0 (c.part_count-count.result - 1) m n r c.args.e c.requires.sends c.requires.step cs c.work-next.ensures.worked in
     let s1 = s.deep_enough in
     let s2 = s.places_few in
     let s3 = s.cells in
@@ -294,8 +294,8 @@ exchange-skip-parts-inside-requires g t c =
     let s9 = s.wide in
     record { near = s.near; few = omega arith }
 
-pub exchange-overflow-add-here : goal.exchange-overflow-add-here
-exchange-overflow-add-here g t c =
+pub exchange-overflow_add-here : goal.exchange-overflow_add-here
+exchange-overflow_add-here g t c =
     let k = g.K.Kind.meaning in
     let x = c.args.x.now in
     let r = c.requires.ready in
@@ -306,8 +306,8 @@ exchange-overflow-add-here g t c =
     let from = c.args.task.at in
     let m = machine c.args.rows.now c.args.output.now c.args.cursors.now c.args.task.place in
     let n = machine c.work-next.new.rows c.work-next.new.output c.work-next.new.cursors c.work-next.result.1 in
-    let cs = ap (λ (z : ℕ). z - 1) c.part-count-count.ensures in
-    let s = ready.spread k x flags f base d from c.work-next.result.0 (c.part-count-count.result - 1) m n r c.args.e c.requires.sends c.requires.step cs c.work-next.ensures.worked in
+    let cs = ap (λ (z : ℕ). z - 1) c.part_count-count.ensures in
+    let s = ready.spread k x flags f base d from c.work-next.result.0 (c.part_count-count.result - 1) m n r c.args.e c.requires.sends c.requires.step cs c.work-next.ensures.worked in
     let s1 = s.deep_enough in
     let s2 = s.places_few in
     let s3 = s.cells in
@@ -317,11 +317,11 @@ exchange-overflow-add-here g t c =
     let s7 = s.count_few in
     let s8 = s.width in
     let s9 = s.wide in
-    let ins = c.skip-parts-inside.ensures.places in
+    let ins = c.skip_parts-inside.ensures.places in
     record { fits = omega arith }
 
-pub exchange-work-parts-end-requires : goal.exchange-work-parts-end-requires
-exchange-work-parts-end-requires g t c κs within =
+pub exchange-work_parts-end-requires : goal.exchange-work_parts-end-requires
+exchange-work_parts-end-requires g t c κs within =
     let k = g.K.Kind.meaning in
     let x = c.args.x.now in
     let r = c.requires.ready in
@@ -333,8 +333,8 @@ exchange-work-parts-end-requires g t c κs within =
     let m = machine c.args.rows.now c.args.output.now c.args.cursors.now c.args.task.place in
     let deep = ready.deep_ready k x flags f base d from m r in
     let n = machine c.work-next.new.rows c.work-next.new.output c.work-next.new.cursors c.work-next.result.1 in
-    let cs = ap (λ (z : ℕ). z - 1) c.part-count-count.ensures in
-    let s = ready.spread k x flags f base d from c.work-next.result.0 (c.part-count-count.result - 1) m n r c.args.e c.requires.sends c.requires.step cs c.work-next.ensures.worked in
+    let cs = ap (λ (z : ℕ). z - 1) c.part_count-count.ensures in
+    let s = ready.spread k x flags f base d from c.work-next.result.0 (c.part_count-count.result - 1) m n r c.args.e c.requires.sends c.requires.step cs c.work-next.ensures.worked in
     let s1 = s.deep_enough in
     let s2 = s.places_few in
     let s3 = s.cells in
@@ -346,10 +346,10 @@ exchange-work-parts-end-requires g t c κs within =
     let s9 = s.wide in
     let kp = laid_kept c.receive.ensures.laid (omega arith) c.receive.ensures.wide in
     let me = c.decreases in
-    (omega arith, (within.0, (within.1, (ready.sent_ready k x flags f c.with-inner.result base (base + c.receive.new.rows.width) d from c.work-next.result.0 (c.part-count-count.result - 1) c.work-next.result.1 m n c.receive.new.rows r s c.with-inner.ensures refl kp refl, omega arith))))
+    (omega arith, (within.0, (within.1, (ready.sent_ready k x flags f c.with-inner.result base (base + c.receive.new.rows.width) d from c.work-next.result.0 (c.part_count-count.result - 1) c.work-next.result.1 m n c.receive.new.rows r s c.with-inner.ensures refl kp refl, omega arith))))
 
-pub exchange-rows-found-found-requires : goal.exchange-rows-found-found-requires
-exchange-rows-found-found-requires g t c =
+pub exchange-rows_found-found-requires : goal.exchange-rows_found-found-requires
+exchange-rows_found-found-requires g t c =
     let k = g.K.Kind.meaning in
     let x = c.args.x.now in
     let r = c.requires.ready in
@@ -360,8 +360,8 @@ exchange-rows-found-found-requires g t c =
     let from = c.args.task.at in
     let m = machine c.args.rows.now c.args.output.now c.args.cursors.now c.args.task.place in
     let n = machine c.work-next.new.rows c.work-next.new.output c.work-next.new.cursors c.work-next.result.1 in
-    let cs = ap (λ (z : ℕ). z - 1) c.part-count-count.ensures in
-    let s = ready.spread k x flags f base d from c.work-next.result.0 (c.part-count-count.result - 1) m n r c.args.e c.requires.sends c.requires.step cs c.work-next.ensures.worked in
+    let cs = ap (λ (z : ℕ). z - 1) c.part_count-count.ensures in
+    let s = ready.spread k x flags f base d from c.work-next.result.0 (c.part_count-count.result - 1) m n r c.args.e c.requires.sends c.requires.step cs c.work-next.ensures.worked in
     let s1 = s.deep_enough in
     let s2 = s.places_few in
     let s3 = s.cells in
@@ -372,7 +372,7 @@ exchange-rows-found-found-requires g t c =
     let s8 = s.width in
     let s9 = s.wide in
     let kp = laid_kept c.receive.ensures.laid (omega arith) c.receive.ensures.wide in
-    let lo = ready.left k x c.work-parts-end.ensures.worked in
+    let lo = ready.left k x c.work_parts-end.ensures.worked in
     let lo1 = lo.width in
     let lo2 = lo.long in
     let lo3 = lo.out in
@@ -381,8 +381,8 @@ exchange-rows-found-found-requires g t c =
     let k2 = kp.long in
     omega arith
 
-pub exchange-hand-over-requires : goal.exchange-hand-over-requires
-exchange-hand-over-requires g t c =
+pub exchange-hand_over-requires : goal.exchange-hand_over-requires
+exchange-hand_over-requires g t c =
     let k = g.K.Kind.meaning in
     let x = c.args.x.now in
     let r = c.requires.ready in
@@ -393,8 +393,8 @@ exchange-hand-over-requires g t c =
     let from = c.args.task.at in
     let m = machine c.args.rows.now c.args.output.now c.args.cursors.now c.args.task.place in
     let n = machine c.work-next.new.rows c.work-next.new.output c.work-next.new.cursors c.work-next.result.1 in
-    let cs = ap (λ (z : ℕ). z - 1) c.part-count-count.ensures in
-    let s = ready.spread k x flags f base d from c.work-next.result.0 (c.part-count-count.result - 1) m n r c.args.e c.requires.sends c.requires.step cs c.work-next.ensures.worked in
+    let cs = ap (λ (z : ℕ). z - 1) c.part_count-count.ensures in
+    let s = ready.spread k x flags f base d from c.work-next.result.0 (c.part_count-count.result - 1) m n r c.args.e c.requires.sends c.requires.step cs c.work-next.ensures.worked in
     let s1 = s.deep_enough in
     let s2 = s.places_few in
     let s3 = s.cells in
@@ -405,24 +405,24 @@ exchange-hand-over-requires g t c =
     let s8 = s.width in
     let s9 = s.wide in
     let kp = laid_kept c.receive.ensures.laid (omega arith) c.receive.ensures.wide in
-    let lo = ready.left k x c.work-parts-end.ensures.worked in
+    let lo = ready.left k x c.work_parts-end.ensures.worked in
     let lo1 = lo.width in
     let lo2 = lo.long in
     let lo3 = lo.out in
     let lo4 = lo.out_long in
     let k1 = kp.width in
     let k2 = kp.long in
-    let ins = c.skip-parts-inside.ensures.places in
-    let fd = c.rows-found-found.ensures in
-    let f0 = outcome_low c.args.e (base + c.receive.new.rows.width) c.work-parts-end.new.rows.width in
+    let ins = c.skip_parts-inside.ensures.places in
+    let fd = c.rows_found-found.ensures in
+    let f0 = outcome_low c.args.e (base + c.receive.new.rows.width) c.work_parts-end.new.rows.width in
     let f0a = f0.0 in
     let f0b = f0.1 in
     let fd0 = ap (λ (z : ℕ × ℕ). z.0) fd in
     let fd1 = ap (λ (z : ℕ × ℕ). z.1) fd in
     record { small = omega arith; wide = omega arith; base = omega arith; returned = omega arith; sent = omega arith; room = omega arith }
 
-pub exchange-overflow-add-result : goal.exchange-overflow-add-result
-exchange-overflow-add-result g t c =
+pub exchange-overflow_add-result : goal.exchange-overflow_add-result
+exchange-overflow_add-result g t c =
     let k = g.K.Kind.meaning in
     let x = c.args.x.now in
     let r = c.requires.ready in
@@ -433,8 +433,8 @@ exchange-overflow-add-result g t c =
     let from = c.args.task.at in
     let m = machine c.args.rows.now c.args.output.now c.args.cursors.now c.args.task.place in
     let n = machine c.work-next.new.rows c.work-next.new.output c.work-next.new.cursors c.work-next.result.1 in
-    let cs = ap (λ (z : ℕ). z - 1) c.part-count-count.ensures in
-    let s = ready.spread k x flags f base d from c.work-next.result.0 (c.part-count-count.result - 1) m n r c.args.e c.requires.sends c.requires.step cs c.work-next.ensures.worked in
+    let cs = ap (λ (z : ℕ). z - 1) c.part_count-count.ensures in
+    let s = ready.spread k x flags f base d from c.work-next.result.0 (c.part_count-count.result - 1) m n r c.args.e c.requires.sends c.requires.step cs c.work-next.ensures.worked in
     let s1 = s.deep_enough in
     let s2 = s.places_few in
     let s3 = s.cells in
@@ -444,7 +444,7 @@ exchange-overflow-add-result g t c =
     let s7 = s.count_few in
     let s8 = s.width in
     let s9 = s.wide in
-    let ins = c.skip-parts-inside.ensures.places in
+    let ins = c.skip_parts-inside.ensures.places in
     record { fits = omega arith }
 
 pub exchange-returns : goal.exchange-returns
@@ -459,11 +459,11 @@ exchange-returns g t c =
     let from = c.args.task.at in
     let m = machine c.args.rows.now c.args.output.now c.args.cursors.now c.args.task.place in
     let n = machine c.work-next.new.rows c.work-next.new.output c.work-next.new.cursors c.work-next.result.1 in
-    let cs = ap (λ (z : ℕ). z - 1) c.part-count-count.ensures in
-    let o = machine c.work-parts-end.new.rows c.work-parts-end.new.output c.work-parts-end.new.cursors c.work-parts-end.result.1 in
+    let cs = ap (λ (z : ℕ). z - 1) c.part_count-count.ensures in
+    let o = machine c.work_parts-end.new.rows c.work_parts-end.new.output c.work_parts-end.new.cursors c.work_parts-end.result.1 in
     record {
-      named = c.hand-over.ensures.named ∙ c.work-parts-end.ensures.named ∙ c.work-next.ensures.named;
-      worked = done.exchange_done k g.met.K.Kind.lawful x flags f base d from m r c.args.e c.with-inner.result (c.part-count-count.result - 1) (base + c.receive.new.rows.width) c.work-next.result.0 c.work-parts-end.result.0 (c.work-next.result.1 + c.skip-parts-inside.result.1) c.skip-parts-inside.result.1 c.rows-found-found.result n o c.receive.new.rows c.hand-over.new.rows c.hand-over.new.output c.hand-over.new.cursors c.cell-initial.result c.requires.sends c.requires.step cs c.with-inner.ensures refl refl c.skip-parts-inside.ensures.places c.work-next.ensures.worked c.cell-initial.ensures c.receive.ensures c.work-parts-end.ensures.worked c.rows-found-found.ensures c.hand-over.ensures.handed;
+      named = c.hand_over.ensures.named ∙ c.work_parts-end.ensures.named ∙ c.work-next.ensures.named;
+      worked = done.exchange_done k g.met.K.Kind.lawful x flags f base d from m r c.args.e c.with-inner.result (c.part_count-count.result - 1) (base + c.receive.new.rows.width) c.work-next.result.0 c.work_parts-end.result.0 (c.work-next.result.1 + c.skip_parts-inside.result.1) c.skip_parts-inside.result.1 c.rows_found-found.result n o c.receive.new.rows c.hand_over.new.rows c.hand_over.new.output c.hand_over.new.cursors c.cell-initial.result c.requires.sends c.requires.step cs c.with-inner.ensures refl refl c.skip_parts-inside.ensures.places c.work-next.ensures.worked c.cell-initial.ensures c.receive.ensures c.work_parts-end.ensures.worked c.rows_found-found.ensures c.hand_over.ensures.handed;
     }
 
 pub branch-work-next-requires : goal.branch-work-next-requires
@@ -481,8 +481,8 @@ branch-work-next-requires g t c κs within =
     let me = c.decreases in
     (omega arith, (within.0, (within.1, ready.first_ready k x flags f base d from m r If tt c.requires.step)))
 
-pub branch-part-ways-still-requires : goal.branch-part-ways-still-requires
-branch-part-ways-still-requires g t c =
+pub branch-part_ways-still-requires : goal.branch-part_ways-still-requires
+branch-part_ways-still-requires g t c =
     let k = g.K.Kind.meaning in
     let x = c.args.x.now in
     let r = c.requires.ready in
@@ -500,8 +500,8 @@ branch-part-ways-still-requires g t c =
     let ns = fk.near_second in
     record { flags = r.flags_are; room = rm; small = omega arith }
 
-pub branch-overflow-add-here : goal.branch-overflow-add-here
-branch-overflow-add-here g t c =
+pub branch-overflow_add-here : goal.branch-overflow_add-here
+branch-overflow_add-here g t c =
     let k = g.K.Kind.meaning in
     let x = c.args.x.now in
     let r = c.requires.ready in
@@ -533,7 +533,7 @@ branch-work-second-requires g t c κs within =
     let deep = ready.deep_ready k x flags f base d from m r in
     let n = machine c.work-next.new.rows c.work-next.new.output c.work-next.new.cursors c.work-next.result.1 in
     let me = c.decreases in
-    (omega arith, (within.0, (within.1, ready.yes_ready k x flags c.part-ways-still.result f base d from c.work-next.result.0 (c.work-next.result.1 + 1) m n c.part-ways-still.new.output c.part-ways-still.new.cursors c.truth-first.result r c.requires.step c.work-next.ensures.worked c.part-ways-still.ensures.parted refl)))
+    (omega arith, (within.0, (within.1, ready.yes_ready k x flags c.part_ways-still.result f base d from c.work-next.result.0 (c.work-next.result.1 + 1) m n c.part_ways-still.new.output c.part_ways-still.new.cursors c.truth-first.result r c.requires.step c.work-next.ensures.worked c.part_ways-still.ensures.parted refl)))
 
 pub branch-skip-end-requires : goal.branch-skip-end-requires
 branch-skip-end-requires g t c =
@@ -557,8 +557,8 @@ branch-skip-end-requires g t c =
     let e1 = ap (λ (z : ℕ). places (unfolded_in x.program.now (d - 1) z).0) se in
     record { near = omega arith; few = omega arith }
 
-pub branch-overflow-add-result : goal.branch-overflow-add-result
-branch-overflow-add-result g t c =
+pub branch-overflow_add-result : goal.branch-overflow_add-result
+branch-overflow_add-result g t c =
     let k = g.K.Kind.meaning in
     let x = c.args.x.now in
     let r = c.requires.ready in
@@ -599,8 +599,8 @@ branch-skip-second-requires g t c =
     let ns = fk.near_second in
     record { near = nr; few = omega arith }
 
-pub branch-overflow-add-here-else-first : goal.branch-overflow-add-here-else-first
-branch-overflow-add-here-else-first g t c =
+pub branch-overflow_add-here-else-first : goal.branch-overflow_add-here-else-first
+branch-overflow_add-here-else-first g t c =
     let k = g.K.Kind.meaning in
     let x = c.args.x.now in
     let r = c.requires.ready in
@@ -618,8 +618,8 @@ branch-overflow-add-here-else-first g t c =
     let ns = fk.near_second in
     record { fits = omega arith }
 
-pub branch-overflow-add-here-else-first-2 : goal.branch-overflow-add-here-else-first-2
-branch-overflow-add-here-else-first-2 g t c =
+pub branch-overflow_add-here-else-first-2 : goal.branch-overflow_add-here-else-first-2
+branch-overflow_add-here-else-first-2 g t c =
     let k = g.K.Kind.meaning in
     let x = c.args.x.now in
     let r = c.requires.ready in
@@ -652,7 +652,7 @@ branch-work-requires g t c κs within =
     let deep = ready.deep_ready k x flags f base d from m r in
     let n = machine c.work-next.new.rows c.work-next.new.output c.work-next.new.cursors c.work-next.result.1 in
     let me = c.decreases in
-    (omega arith, (within.0, (within.1, ready.no_ready k x flags c.part-ways-still.result f base d from c.work-next.result.0 c.skip-second.result.0 c.skip-second.result.1 (c.work-next.result.1 + 1 + c.skip-second.result.1) m n c.part-ways-still.new.output c.part-ways-still.new.cursors c.truth-first.result r c.requires.step c.work-next.ensures.worked c.part-ways-still.ensures.parted c.skip-second.ensures.end c.skip-second.ensures.places refl)))
+    (omega arith, (within.0, (within.1, ready.no_ready k x flags c.part_ways-still.result f base d from c.work-next.result.0 c.skip-second.result.0 c.skip-second.result.1 (c.work-next.result.1 + 1 + c.skip-second.result.1) m n c.part_ways-still.new.output c.part_ways-still.new.cursors c.truth-first.result r c.requires.step c.work-next.ensures.worked c.part_ways-still.ensures.parted c.skip-second.ensures.end c.skip-second.ensures.places refl)))
 
 pub branch-returns-then-first : goal.branch-returns-then-first
 branch-returns-then-first g t c =
@@ -668,8 +668,8 @@ branch-returns-then-first g t c =
     let n = machine c.work-next.new.rows c.work-next.new.output c.work-next.new.cursors c.work-next.result.1 in
     let o = machine c.work-second.new.rows c.work-second.new.output c.work-second.new.cursors c.work-second.result.1 in
     record {
-      named = c.work-second.ensures.named ∙ c.part-ways-still.ensures.named ∙ c.work-next.ensures.named;
-      worked = done.yes_done k g.met.K.Kind.lawful x flags f base d from m r c.part-ways-still.result n o c.part-ways-still.new.output c.part-ways-still.new.cursors c.work-next.result.0 c.work-second.result.0 c.skip-end.result.0 c.skip-end.result.1 c.cell.result c.truth-first.result c.requires.step c.work-next.ensures.worked c.cell.ensures c.truth-first.ensures c.if-first.true c.part-ways-still.ensures.parted c.work-second.ensures.worked c.skip-end.ensures.end c.skip-end.ensures.places;
+      named = c.work-second.ensures.named ∙ c.part_ways-still.ensures.named ∙ c.work-next.ensures.named;
+      worked = done.yes_done k g.met.K.Kind.lawful x flags f base d from m r c.part_ways-still.result n o c.part_ways-still.new.output c.part_ways-still.new.cursors c.work-next.result.0 c.work-second.result.0 c.skip-end.result.0 c.skip-end.result.1 c.cell.result c.truth-first.result c.requires.step c.work-next.ensures.worked c.cell.ensures c.truth-first.ensures c.if-first.true c.part_ways-still.ensures.parted c.work-second.ensures.worked c.skip-end.ensures.end c.skip-end.ensures.places;
     }
 
 pub branch-returns-else-first : goal.branch-returns-else-first
@@ -686,12 +686,12 @@ branch-returns-else-first g t c =
     let n = machine c.work-next.new.rows c.work-next.new.output c.work-next.new.cursors c.work-next.result.1 in
     let o = machine c.work.new.rows c.work.new.output c.work.new.cursors c.work.result.1 in
     record {
-      named = c.work.ensures.named ∙ c.part-ways-still.ensures.named ∙ c.work-next.ensures.named;
-      worked = done.no_done k g.met.K.Kind.lawful x flags f base d from m r c.part-ways-still.result n o c.part-ways-still.new.output c.part-ways-still.new.cursors c.work-next.result.0 c.skip-second.result.0 c.work.result.0 c.skip-second.result.1 c.cell.result c.truth-first.result c.requires.step c.work-next.ensures.worked c.cell.ensures c.truth-first.ensures c.if-first.false c.part-ways-still.ensures.parted c.skip-second.ensures.end c.skip-second.ensures.places c.work.ensures.worked;
+      named = c.work.ensures.named ∙ c.part_ways-still.ensures.named ∙ c.work-next.ensures.named;
+      worked = done.no_done k g.met.K.Kind.lawful x flags f base d from m r c.part_ways-still.result n o c.part_ways-still.new.output c.part_ways-still.new.cursors c.work-next.result.0 c.skip-second.result.0 c.work.result.0 c.skip-second.result.1 c.cell.result c.truth-first.result c.requires.step c.work-next.ensures.worked c.cell.ensures c.truth-first.ensures c.if-first.false c.part_ways-still.ensures.parted c.skip-second.ensures.end c.skip-second.ensures.places c.work.ensures.worked;
     }
 
-pub work-returns-in-default : goal.work-returns-in-default
-work-returns-in-default g t c =
+pub work-returns-in_default : goal.work-returns-in_default
+work-returns-in_default g t c =
     let k = g.K.Kind.meaning in
     let x = c.args.x.now in
     let r = c.requires.ready in
@@ -702,7 +702,7 @@ work-returns-in-default g t c =
     let from = c.args.task.at in
     let m = machine c.args.rows.now c.args.output.now c.args.cursors.now c.args.task.place in
     let deep = ready.deep_ready k x flags f base d from m r in
-    record { named = refl; worked = done.blank_done k g.met.K.Kind.lawful x flags f base d from m r c.link-row.new.rows (sym c.in-default.ensures) c.link-row.ensures deep }
+    record { named = refl; worked = done.blank_done k g.met.K.Kind.lawful x flags f base d from m r c.link_row.new.rows (sym c.in_default.ensures) c.link_row.ensures deep }
 
 pub work-returns-in-Literal : goal.work-returns-in-Literal
 work-returns-in-Literal g t c =
@@ -717,5 +717,5 @@ work-returns-in-Literal g t c =
     let m = machine c.args.rows.now c.args.output.now c.args.cursors.now c.args.task.place in
     record {
       named = refl;
-      worked = done.leaf_done k g.met.K.Kind.lawful x flags f base d from m r c.in-Some.e c.leaf.new.rows c.parts-start.result (done.is_leaf c.in-Some.e c.in-Literal.is) c.in-Some.ensures c.leaf.ensures (c.parts-start.ensures ∙ ap (λ (v : ℕ). start v from c.in-Some.e) c.width.ensures.is);
+      worked = done.leaf_done k g.met.K.Kind.lawful x flags f base d from m r c.in-Some.e c.leaf.new.rows c.parts_start.result (done.is_leaf c.in-Some.e c.in-Literal.is) c.in-Some.ensures c.leaf.ensures (c.parts_start.ensures ∙ ap (λ (v : ℕ). start v from c.in-Some.e) c.width.ensures.is);
     }

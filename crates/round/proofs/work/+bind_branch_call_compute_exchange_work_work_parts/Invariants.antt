@@ -19,5 +19,5 @@ decreases-exchange g l = 20 * l.task.depth
 abbrev pub decreases-work : goal.decreases-work
 decreases-work g l = 20 * l.task.depth + 1
 
-abbrev pub decreases-work-parts : goal.decreases-work-parts
-decreases-work-parts g l = 20 * l.task.depth + l.count + 2
+abbrev pub decreases-work_parts : goal.decreases-work_parts
+decreases-work_parts g l = 20 * l.task.depth + l.count + 2

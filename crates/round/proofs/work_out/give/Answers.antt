@@ -13,14 +13,14 @@ returns g c =
     let me = c.args.node in
     let contents = g.I.Inbox.meaning c.args.inbox.now in
     record {
-      fits = c.run-on.ensures.fits;
+      fits = c.run_on.ensures.fits;
       means = λ vs e.
           let y = given_in k p me contents.items c.args.last.now vs in
-          c.run-on.ensures.means y (record {
+          c.run_on.ensures.means y (record {
             number = refl;
             readings_are = readings_values k c.args.readings.now g.met.K.Kind.lawful (shown p).header.sensors vs e;
             held = c.load-slots.ensures;
-            last = c.own-tree-own.ensures;
+            last = c.own_tree-own.ensures;
             orderly = held_orderly g.row.K-Value.Denot k (due (run_of p) 0) (shown p).header.number contents (g.I.Inbox.lawful c.args.inbox.now) y (omega (arith, c.ranges.node.fits)) refl;
           });
     }

@@ -4,9 +4,9 @@ use Rattle.steps.proofs.hand_over.hand_over.Goals as goal
 
 pub returns : goal.returns
 returns g c =
-    let put = c.put-sent.ensures.put in
+    let put = c.put_sent.ensures.put in
     record {
-      named = c.put-sent.ensures.named;
+      named = c.put_sent.ensures.named;
       handed = record {
         laid = c.copy.ensures;
         bytes = put.bytes;

@@ -7,8 +7,8 @@ pub returns-in-Literal : goal.returns-in-Literal
 returns-in-Literal g c =
     let k = g.K.Kind.meaning in
     literal_laid k c.args.x.now c.args.frame.now c.args.rows.now c.fill.new.self c.args.base c.requires.wide
-    c.args.e c.in-Literal.from c.value-in.result c.in-Literal.is c.requires.width
-    (c.value-in.ensures ∙ ap (λ (bs : List ℕ). value_in k bs c.in-Literal.from) c.block.ensures) c.fill.ensures
+    c.args.e c.in-Literal.from c.value_in.result c.in-Literal.is c.requires.width
+    (c.value_in.ensures ∙ ap (λ (bs : List ℕ). value_in k bs c.in-Literal.from) c.block.ensures) c.fill.ensures
 
 pub returns-in-Some : goal.returns-in-Some
 returns-in-Some g c =
@@ -18,7 +18,7 @@ returns-in-Some g c =
 pub returns-in-None : goal.returns-in-None
 returns-in-None g c =
     missing_laid g.K.Kind.meaning c.args.x.now c.args.frame.now c.args.rows.now c.fill-in-None.new.self c.args.base c.requires.wide
-    c.args.e c.in-Variable.n c.own-value.result c.in-Variable.is (sym c.row.ensures ∙ c.in-None.is) c.own-value.ensures c.fill-in-None.ensures
+    c.args.e c.in-Variable.n c.own_value.result c.in-Variable.is (sym c.row.ensures ∙ c.in-None.is) c.own_value.ensures c.fill-in-None.ensures
 
 pub returns-in-Sensor : goal.returns-in-Sensor
 returns-in-Sensor g c =

@@ -5,9 +5,9 @@ use Rattle.steps.proofs.part_ways.part_ways.Goals as goal
 pub returns : goal.returns
 returns g c =
     record {
-      named = c.put-choice.ensures.named;
+      named = c.put_choice.ensures.named;
       parted = record {
-        wrote = c.put-choice.ensures.grown;
+        wrote = c.put_choice.ensures.grown;
         long = c.narrow.ensures.long;
         aligned = λ given al low gives flags stands le. c.narrow.ensures.is given al c.args.place gives flags (c.advance.ensures given low gives stands le) (omega arith);
         stands = λ given low gives stands le. standing_later (c.advance.ensures given low gives stands le) (omega arith);
