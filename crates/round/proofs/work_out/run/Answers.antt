@@ -20,7 +20,7 @@ returns g c =
     let r = c.run_start-at.ensures in
     let h = c.put_header.ensures in
     let x = c.args.x.now in
-    let back = c.output·1.given.1.1 (sym (h.named ∙ c.work.ensures.named)) in
+    let back = c.output-1.given.1.1 (sym (h.named ∙ c.work.ensures.named)) in
     subst (GivesOut g.K.Kind.meaning x c.cell-result.result c.put_header.new.output.len c.args.output.now) (sym back)
     (run_out g.K.Kind.meaning x c.requires.suits c.run_start-at.result.1 c.run_start-at.result.0 r.is _ _ c.begin-cursors.result c.empty-frame.result _ (machine c.work.new.rows c.work.new.output c.work.new.cursors c.work.result.1) c.work.result.0 c.cell-result.result c.put_header.new.output c.number.result
     refl c.requires.values refl c.requires.output c.empty-frame.ensures refl c.number.ensures (λ y gi. c.begin-cursors.ensures c.args.x.now y gi) c.work.ensures.worked c.cell-result.ensures h.same h.bytes h.tree)
