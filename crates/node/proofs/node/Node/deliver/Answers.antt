@@ -9,16 +9,16 @@ use Rattle.node.specs.Nodes.{state}
 use Rattle.node.proofs.Calls.{if_refused, refused_first, refused_after, refused_put, accepted, delivery_promise}
 use Rattle.node.proofs.node.Node.deliver.Goals as goal
 
-pub returns-in-err-sender : goal.returns-in-err-sender
-returns-in-err-sender g c =
+pub returns-in_err-sender : goal.returns-in_err-sender
+returns-in_err-sender g c =
     let k = g.K.Kind.meaning in
     let s : State = state {K = g.row.K.Denot} g.I.Inbox.meaning c.args.self.now in
     let link = c.args.link.now in
     let m = c.args.message.now in
-    let a = c.from-residual.result in
+    let a = c.from_residual.result in
     let found : a ≡ mapped sender_of (arriving k s link m) = search rules in
-    let value : a ≡ deliver_answer k s link m = refused_first s.inbox (link ++ m) (arriving k s link m) a c.from-residual.ensures.0 found in
-    let after = refused_after s (link ++ m) a (deliver_answer k s link m) c.from-residual.ensures.0 value in
+    let value : a ≡ deliver_answer k s link m = refused_first s.inbox (link ++ m) (arriving k s link m) a c.from_residual.ensures.0 found in
+    let after = refused_after s (link ++ m) a (deliver_answer k s link m) c.from_residual.ensures.0 value in
     record {
       value = value;
       after = after;
@@ -32,12 +32,12 @@ returns-in-Ok g c =
     let s : State = state {K = g.row.K.Denot} g.I.Inbox.meaning c.args.self.now in
     let link = c.args.link.now in
     let m = c.args.message.now in
-    let n = c.in-ok-sender.sender in
+    let n = c.in_ok-sender.sender in
     let joined : take c.join-n.result c.join-n.new.item ≡ link ++ m = c.join-n.ensures.joined in
     let put : Ok c.in-Ok.field-0 ≡ put_answer s.inbox n (link ++ m) =
     rw sub-zero at c.in-Ok.ensures.value ∙ ap (put_answer s.inbox n) joined in
     let value : Ok n ≡ deliver_answer k s link m =
-    accepted s.inbox (link ++ m) (arriving k s link m) n c.in-Ok.field-0 c.in-ok-sender.ensures.is put in
+    accepted s.inbox (link ++ m) (arriving k s link m) n c.in-Ok.field-0 c.in_ok-sender.ensures.is put in
     let held : g.I.Inbox.meaning c.put.new.self ≡ after_put s.inbox n (link ++ m) =
     rw sub-zero at c.put.ensures.after ∙ ap (after_put s.inbox n) joined in
     let after : with_inbox s (g.I.Inbox.meaning c.put.new.self) ≡ after_deliver k s link m =
@@ -55,13 +55,13 @@ returns-in-Err g c =
     let s : State = state {K = g.row.K.Denot} g.I.Inbox.meaning c.args.self.now in
     let link = c.args.link.now in
     let m = c.args.message.now in
-    let n = c.in-ok-sender.sender in
+    let n = c.in_ok-sender.sender in
     let e = c.in-Err.refusal in
     let joined : take c.join-n.result c.join-n.new.item ≡ link ++ m = c.join-n.ensures.joined in
     let put : Err e ≡ put_answer s.inbox n (link ++ m) =
     rw sub-zero at c.in-Err.ensures.value ∙ ap (put_answer s.inbox n) joined in
     let value : Err e ≡ deliver_answer k s link m =
-    refused_put s.inbox (link ++ m) (arriving k s link m) n e c.in-ok-sender.ensures.is put in
+    refused_put s.inbox (link ++ m) (arriving k s link m) n e c.in_ok-sender.ensures.is put in
     let same = c.in-Err.ensures.untouched in
     let after : with_inbox s (g.I.Inbox.meaning c.put.new.self) ≡ after_deliver k s link m =
     ap (λ (x : g.row.I.Denot). with_inbox s (g.I.Inbox.meaning x)) same ∙ ap (λ (o : Outcome ℕ). put_so o s (link ++ m)) value in
