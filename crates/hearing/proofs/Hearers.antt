@@ -1,8 +1,8 @@
 -- What is heard of the sender in a slot: the numbers of held senders rise, so it is found by its number.
-use Rattle.std.proofs.Common.{◌≡◌, ℕ, zero, suc, ◌+◌, ◌<◌, ◌≤◌, eqb, List, [], ◌∷◌, length, get_or, refl, ◌∙◌, arith, eq-eqb, ne_eqb}
+use Rattle.std.proofs.Common.{◌≡◌, ℕ, zero, suc, ◌<◌, ◌≤◌, List, [], ◌∷◌, length, get_or, refl, arith, eq-eqb, ne_eqb}
 use Rattle.record.specs.Trees.{says}
 use Rattle.rules.specs.Rules.{Sender, senders, hears, link_to}
-use Rattle.rules.specs.Laws.{RisingNumbers, no_number, number_then}
+use Rattle.rules.specs.Laws.{RisingNumbers, number_then}
 
 module _ {V : Type 0} where
   -- the number of a sender is at least what the numbers rise from

@@ -1,11 +1,11 @@
 -- What a round is given, as it lies in memory, and how it stands in the trees. Assumes nothing.
-use Rattle.std.specs.Prelude.{◌≡◌, ℕ, ◌+◌, ◌*◌, ◌<◌, ◌≤◌, Bool, false, List, ◌∷◌, map, length, get_or, slice_index, slice_index_or}
+use Rattle.std.specs.Prelude.{◌≡◌, ℕ, ◌*◌, ◌<◌, ◌≤◌, Bool, false, List, ◌∷◌, map, length, get_or, slice_index, slice_index_or}
 use Rattle.std.specs.Option.{unwrap_or}
 use Rattle.kind.specs.Kind.{Meaning}
 use Rattle.record.specs.Fields.{part}
 use Rattle.row_stack.specs.declared.row_stack.RowStack.{RowStack}
 use Rattle.row_stack.specs.Rows.{Laid}
-use Rattle.rules.specs.Rules.{Spot, at, elsewhere, Field, Sender, Given, senders, links, received, narrowed}
+use Rattle.rules.specs.Rules.{Spot, at, elsewhere, Sender, Given, senders, links, received}
 use Rattle.rules.specs.Laws.{Orderly}
 use Rattle.cursor.specs.Cursors.{Readable, Stands}
 use Rattle.held.specs.Slots.{slot_tree, Loaded}

@@ -13,7 +13,7 @@ use Rattle.program.specs.declared.expression.Expression.{Expression}
 use Rattle.program.specs.declared.expression.Expression.TheVariants.{Literal, Variable, Let, Operator, Fold, Exchange, Share, If, Call, Sensor, Link, Own, Choose}
 use Rattle.refusal.specs.Outcomes.{Outcome, refuse, after, must}
 use Rattle.refusal.proofs.Outcomes.{after_same, mapped_after}
-use Rattle.program.specs.Expressions.{Expr, Exprs, none, Unfolded}
+use Rattle.program.specs.Expressions.{Expr, Exprs, Unfolded}
 use Rattle.program.specs.Measures.{sizes_of, size_all, depth_all, weight_all, places_all}
 use Rattle.program.specs.Bounds.{Small, SmallSums}
 use Rattle.program.specs.Reading.{decoded, readable, available, part_count, binds, callee, Parts, arguments, built, no_function, parts, called_function, expr_by, expr}

@@ -1,5 +1,5 @@
 -- Reading a message. Assumes nothing.
-use Rattle.std.specs.Prelude.{ℕ, ◌+◌, cond, List, [], ◌∷◌, ◌++◌, length, Ok, ◌==◌}
+use Rattle.std.specs.Prelude.{ℕ, cond, List, [], ◌∷◌, ◌++◌, length, Ok, ◌==◌}
 use Rattle.refusal.specs.Outcomes.{Outcome, after, must}
 use Rattle.refusal.specs.declared.cause.Cause.TheVariants as cause
 use Rattle.kind.specs.Kind.{Meaning}

@@ -1,22 +1,21 @@
 -- How the working of an expression is made of that of its parts.
-use Rattle.std.proofs.Common.{◌≡◌, ℕ, zero, suc, ◌+◌, ◌-◌, ◌*◌, ◌<◌, ◌≤◌, max, Bool, true, false, cond, List, [], ◌∷◌, ◌++◌, map, length, get_or, take, drop, replicate, sym, refl, ap, ◌∙◌, subst, append_assoc, append-nil, arith, length-append}
-use Rattle.std.proofs.lemmas.List.{length-map, length-replicate}
+use Rattle.std.proofs.Common.{◌≡◌, ℕ, zero, suc, ◌+◌, ◌-◌, ◌<◌, ◌≤◌, Bool, true, false, cond, List, [], ◌∷◌, ◌++◌, map, length, get_or, drop, replicate, sym, refl, ap, ◌∙◌, subst, append_assoc, append-nil, arith, length-append}
+use Rattle.std.proofs.lemmas.List.{length-replicate}
 use Rattle.kind.specs.Kind.{Meaning, Lawful}
 use Rattle.program.specs.declared.expression.Expression.{Expression}
 use Rattle.program.specs.declared.expression.Expression.TheVariants.{Literal, Variable, Let, Operator, Fold, Exchange, Share, If, Call, Sensor, Link, Own, Choose}
-use Rattle.program.specs.Expressions.{Expr, Exprs, literal, variable, bind, operator, fold, exchange, share, branch, call, sensor, link, own, choose, none, then}
+use Rattle.program.specs.Expressions.{Expr, Exprs, bind, branch, call, none, then}
 use Rattle.program.specs.Reading.{part_count}
-use Rattle.program.specs.Measures.{depth, depth_all, places, places_all, weight, weight_all, record_weight}
+use Rattle.program.specs.Measures.{places, places_all, weight, weight_all, record_weight}
 use Rattle.record.specs.declared.output.Output.{Output}
-use Rattle.record.specs.Growth.{Grown}
 use Rattle.record.specs.Trees.{Rec, choice}
 use Rattle.record.specs.Writing.{written_record, written_records}
-use Rattle.record.proofs.Grows.{grown_none, grown_after, grown_is}
+use Rattle.record.proofs.Grows.{grown_none, grown_after}
 use Rattle.record.proofs.Written.{records_both}
 use Rattle.row_stack.specs.declared.row_stack.RowStack.{RowStack}
 use Rattle.row_stack.specs.Rows.{row, Laid, applied, chosen, gathered, sender_cells, own_cell}
 use Rattle.row_stack.proofs.Laying.{row_long, rows_applied_long, rows_chosen_long}
-use Rattle.rules.specs.Rules.{Spot, at, elsewhere, Field, Given, senders, everywhere, received, narrowed, folded, record_of, mine, Out, work, work_all}
+use Rattle.rules.specs.Rules.{Field, Given, senders, everywhere, received, narrowed, folded, record_of, mine, Out, work, work_all}
 use Rattle.program.specs.declared.function.Function.{Function}
 use Rattle.unfolding.specs.Unfolding.{listed, count_in, start, unfolded_by}
 use Rattle.hearing.specs.declared.inputs.Inputs.{Inputs}
@@ -24,10 +23,10 @@ use Rattle.hearing.specs.declared.cursors.Cursors.{Cursors}
 use Rattle.hearing.specs.Hearing.{spots, Gives, Standing, Flags, Received}
 use Rattle.steps.specs.declared.frame.Frame.{Frame}
 use Rattle.steps.specs.Frames.{row_of, row_after, Longer, Below, Framed, Arguments}
-use Rattle.round.specs.Machines.{Machine, machine, Kept, RowsAt, Meant, Ran, Worked, WorkedAll}
+use Rattle.round.specs.Machines.{Machine, machine, Kept, RowsAt, Worked, WorkedAll}
 use Rattle.round.specs.Counts.{count_all}
-use Rattle.steps.specs.Steps.{Leafed, leaf_value, Computed, computed, Parted, Sends, outcome_rows, Handed}
-use Rattle.round.proofs.Stacks.{kept_same, kept_lower, kept_then, row_kept, rows_kept, laid_kept, laid_row, row_everywhere, row_applied, row_chosen, own_at, spots_long, row_gathered, below_later, framed_kept, framed_longer, standing_later}
+use Rattle.steps.specs.Steps.{Computed, computed, Parted, Sends, outcome_rows, Handed}
+use Rattle.round.proofs.Stacks.{kept_same, kept_then, row_kept, laid_kept, laid_row, row_everywhere, row_applied, row_chosen, own_at, spots_long, row_gathered, framed_kept, framed_longer, standing_later}
 
 -- the rows of an outcome lie from `top` on
 pub outcome_low : (st : Expression) (top w : ℕ) → ((outcome_rows st top w).0 ≡ top) × ((outcome_rows st top w).1 ≤ top + w)

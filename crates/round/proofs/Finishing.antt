@@ -1,31 +1,30 @@
 -- What each function of the ring leaves, for the expression that stands in the program's block.
-use Rattle.std.proofs.Common.{◌≡◌, ℕ, zero, suc, ◌+◌, ◌-◌, ◌*◌, ◌<◌, ◌≤◌, Bool, true, false, ◌⊎◌, List, [], ◌∷◌, ◌++◌, length, get_or, Some, None, sym, refl, ap, ◌∙◌, subst, ⊎_elim, arith}
+use Rattle.std.proofs.Common.{◌≡◌, ℕ, zero, suc, ◌+◌, ◌-◌, ◌≤◌, Bool, true, false, ◌⊎◌, List, [], get_or, Some, None, sym, refl, ap, ◌∙◌, subst, ⊎_elim, arith}
 use Rattle.kind.specs.Kind.{Meaning, Lawful}
 use Rattle.program.specs.declared.expression.Expression.{Expression}
 use Rattle.program.specs.declared.expression.Expression.TheVariants.{Literal, Variable, Let, Operator, Fold, Exchange, Share, If, Call, Sensor, Link, Own, Choose}
-use Rattle.program.specs.Expressions.{Expr, Exprs, link, none, then}
-use Rattle.program.specs.Measures.{places, places_all, weight}
+use Rattle.program.specs.Expressions.{Expr, Exprs, link}
+use Rattle.program.specs.Measures.{places, places_all}
 use Rattle.program.specs.Programs.{shown}
 use Rattle.program.specs.Reading.{part_count}
 use Rattle.record.specs.declared.output.Output.{Output}
 use Rattle.row_stack.specs.declared.row_stack.RowStack.{RowStack}
 use Rattle.row_stack.specs.Rows.{row, Laid}
-use Rattle.rules.specs.Rules.{Field, Given, links, work}
+use Rattle.rules.specs.Rules.{Field, Given, work}
 use Rattle.unfolding.specs.Unfolding.{listed, count_in, named, start, unfolded_by, expression_at}
 use Rattle.unfolding.specs.Walks.{rows, unfolded_in}
 use Rattle.unfolding.proofs.Near.{blank}
 use Rattle.hearing.specs.declared.inputs.Inputs.{Inputs}
 use Rattle.hearing.specs.declared.cursors.Cursors.{Cursors}
-use Rattle.hearing.specs.Hearing.{Gives, Received, Linked}
+use Rattle.hearing.specs.Hearing.{Received, Linked}
 use Rattle.steps.specs.declared.frame.Frame.{Frame}
-use Rattle.steps.specs.Frames.{row_of, row_after, Longer, Below, Framed, Arguments}
+use Rattle.steps.specs.Frames.{row_of, row_after, Longer, Arguments}
 use Rattle.steps.specs.Steps.{Leaf, leaf_value, Leafed, Computed, computed, Parted, Sends, outcome_rows, Handed}
-use Rattle.round.specs.Machines.{Machine, machine, Kept, ReadyOne, ReadyAll, Worked, WorkedAll}
+use Rattle.round.specs.Machines.{Machine, machine, ReadyOne, ReadyAll, Worked, WorkedAll}
 use Rattle.round.specs.Counts.{count_all}
-use Rattle.round.proofs.Stacks.{laid_kept}
 use Rattle.round.proofs.Arms.{with_rows, none_worked, next_worked, leaf_worked, computed_worked, bind_worked, call_worked, yes_worked, no_worked, sends_worked}
 use Rattle.round.proofs.Rowing.{row_after_most, row_after_least}
-use Rattle.round.proofs.Readying.{opened, ready_by, left, narrow_row, wide_row, gathers, parts_few, Spread, spread, Forked, forked}
+use Rattle.round.proofs.Readying.{opened, left, narrow_row, parts_few, spread}
 
 -- the four leaves
 pub is_leaf : (e : Expression) → ((i : ℕ) × e ≡ Literal i) ⊎ (((i : ℕ) × e ≡ Variable i) ⊎ (((i : ℕ) × e ≡ Sensor i) ⊎ (e ≡ Link))) → Leaf e

@@ -1,6 +1,5 @@
 -- Readings, the last own tree, and what stands on the output in the end.
-use Rattle.std.proofs.Common.{◌≡◌, ℕ, zero, suc, ◌+◌, ◌-◌, ◌*◌, ◌<◌, ◌≤◌, Bool, true, false, cond, eqb, leb, ◌≢◌, List, [], ◌∷◌, ◌++◌, length, get_or, take, drop, is_some, Some, None, Ok, Err, Option, unwrap_or, sym, refl, ap, ◌∙◌, subst, ⊎_elim, append_assoc, suc-mul, add-mul, one-mul, zero-mul, arith, length-append, length-drop, take-append-drop, length-take, drop-drop, drop_at, eq-eqb, ne_eqb}
-use Rattle.std.proofs.lemmas.Bool.{cases_lt}
+use Rattle.std.proofs.Common.{◌≡◌, ℕ, zero, suc, ◌+◌, ◌-◌, ◌*◌, ◌<◌, ◌≤◌, Bool, true, false, cond, eqb, ◌≢◌, List, [], ◌∷◌, ◌++◌, length, get_or, take, drop, is_some, Some, None, Ok, Err, Option, unwrap_or, sym, refl, ap, ◌∙◌, subst, suc-mul, add-mul, one-mul, zero-mul, arith, length-append, length-drop, take-append-drop, length-take, drop-drop, drop_at, eq-eqb, ne_eqb}
 use Rattle.std.proofs.lemmas.Bool.Decides.{nat_tests}
 use Rattle.refusal.specs.Outcomes.{Outcome, refusal, refuse, after, must, mapped}
 use Rattle.refusal.specs.declared.cause.Cause.TheVariants as cause

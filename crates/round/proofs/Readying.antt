@@ -1,27 +1,25 @@
 -- What the parts of an expression find when they are worked.
-use Rattle.std.proofs.Common.{◌≡◌, ℕ, zero, suc, ◌+◌, ◌-◌, ◌*◌, ◌<◌, ◌≤◌, max, Bool, List, length, get_or, Some, sym, refl, ap, ◌∙◌, subst, arith}
-use Rattle.kind.specs.Kind.{Meaning, Lawful}
+use Rattle.std.proofs.Common.{◌≡◌, ℕ, zero, suc, ◌+◌, ◌-◌, ◌*◌, ◌≤◌, Bool, List, length, Some, sym, refl, ap, ◌∙◌, subst, arith}
+use Rattle.kind.specs.Kind.{Meaning}
 use Rattle.program.specs.declared.expression.Expression.{Expression}
 use Rattle.program.specs.declared.expression.Expression.TheVariants.{Literal, Variable, Let, Operator, Fold, Exchange, Share, If, Call, Sensor, Link, Own, Choose}
-use Rattle.program.specs.declared.function.Function.{Function}
-use Rattle.program.specs.Expressions.{Expr, Exprs, none, then}
+use Rattle.program.specs.Expressions.{Expr, Exprs, then}
 use Rattle.program.specs.Measures.{depth, depth_all, places, places_all, weight, weight_all, record_weight}
 use Rattle.program.specs.Programs.{shown}
 use Rattle.program.specs.Reading.{part_count}
-use Rattle.record.specs.Growth.{Grown}
 use Rattle.record.specs.Trees.{Rec}
 use Rattle.rules.specs.Rules.{Field, Given}
 use Rattle.row_stack.specs.declared.row_stack.RowStack.{RowStack}
 use Rattle.unfolding.specs.Unfolding.{listed, count_in, named, start, unfolded_by, expression_at}
 use Rattle.unfolding.specs.Walks.{rows, unfolded_in}
-use Rattle.unfolding.proofs.Near.{deep, blank, near_start, near_listed}
+use Rattle.unfolding.proofs.Near.{deep, near_start}
 use Rattle.unfolding.proofs.Programs.{wide, narrow, near_in, placed, few_parameters}
 use Rattle.unfolding.proofs.Checked.{some_depth}
 use Rattle.record.specs.declared.output.Output.{Output}
 use Rattle.hearing.specs.declared.inputs.Inputs.{Inputs}
 use Rattle.hearing.specs.declared.cursors.Cursors.{Cursors}
 use Rattle.steps.specs.declared.frame.Frame.{Frame}
-use Rattle.steps.specs.Frames.{row_of, row_after, Longer, Below, Arguments}
+use Rattle.steps.specs.Frames.{row_after, Longer, Below, Arguments}
 use Rattle.round.specs.Machines.{Machine, machine, Kept, Ready, ReadyOne, ReadyAll, Ran, Worked, WorkedAll}
 use Rattle.steps.specs.Steps.{Computed, Parted, Sends}
 use Rattle.round.proofs.Rowing.{row_after_most, row_after_below}

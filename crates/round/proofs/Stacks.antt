@@ -1,13 +1,13 @@
 -- Rows that stay and rows that are laid.
-use Rattle.std.proofs.Common.{◌≡◌, ℕ, zero, suc, ◌+◌, ◌-◌, ◌*◌, ◌<◌, ◌≤◌, Bool, false, cond, List, [], ◌∷◌, ◌++◌, map, length, get_or, take, drop, replicate, sym, refl, ap, ◌∙◌, subst, ⊎_elim, append_assoc, arith, length-append, length-drop, length-take, get_or-take, take-take, take_at}
+use Rattle.std.proofs.Common.{◌≡◌, ℕ, zero, suc, ◌+◌, ◌-◌, ◌<◌, ◌≤◌, Bool, false, cond, List, [], ◌∷◌, ◌++◌, map, length, get_or, take, drop, replicate, sym, refl, ap, ◌∙◌, subst, ⊎_elim, append_assoc, arith, length-take, take-take, take_at}
 use lib.Seq.{paste, length-paste, take-paste}
 use Rattle.std.proofs.lemmas.List.{drop-take, length-map, length_push, get_or_append_left, get_or_push}
 use Rattle.std.proofs.lemmas.Bool.{cases_lt}
 use Rattle.kind.specs.Kind.{Meaning}
 use Rattle.row_stack.specs.declared.row_stack.RowStack.{RowStack}
-use Rattle.row_stack.specs.Rows.{row, Laid, applied, chosen, gathered, sender_cells, own_cell}
-use Rattle.row_stack.proofs.Laying.{row_cell, row_long}
-use Rattle.rules.specs.Rules.{Spot, at, elsewhere, Field, Sender, Given, senders, everywhere, folded}
+use Rattle.row_stack.specs.Rows.{row, Laid, applied, chosen, gathered}
+use Rattle.row_stack.proofs.Laying.{row_cell}
+use Rattle.rules.specs.Rules.{Spot, at, Field, Sender, Given, senders, everywhere, folded}
 use Rattle.record.specs.Trees.{Rec, place_of}
 use Rattle.cursor.specs.Cursors.{Stands}
 use Rattle.hearing.specs.declared.inputs.Inputs.{Inputs}

@@ -1,5 +1,5 @@
 -- How a round begins and what it gives.
-use Rattle.std.proofs.Common.{◌≡◌, ℕ, zero, suc, ◌+◌, ◌-◌, ◌*◌, ◌<◌, ◌≤◌, Bool, true, false, ◌&&◌, leb, List, [], ◌∷◌, ◌++◌, length, get_or, take, drop, replicate, Ok, Err, sym, refl, ap, ◌∙◌, subst, ⊎_elim, arith, length-take, get_or-drop, get_or-take, le-leb}
+use Rattle.std.proofs.Common.{◌≡◌, ℕ, zero, suc, ◌+◌, ◌-◌, ◌*◌, ◌<◌, ◌≤◌, Bool, true, false, ◌&&◌, leb, List, [], ◌++◌, length, get_or, take, drop, replicate, Ok, Err, sym, refl, ap, ◌∙◌, subst, ⊎_elim, arith, length-take, get_or-drop, get_or-take, le-leb}
 use Rattle.std.proofs.lemmas.List.{get_or_past}
 use Rattle.std.proofs.lemmas.Bool.{cases_lt}
 use Rattle.std.proofs.lemmas.Bool.Decides.{nat_tests}
@@ -20,21 +20,20 @@ use Rattle.record.specs.Writing.{written_records, written_tree}
 use Rattle.record.proofs.Grows.{grown_part}
 use Rattle.inbox.specs.Contents.{Item, longest_item}
 use Rattle.row_stack.specs.declared.row_stack.RowStack.{RowStack}
-use Rattle.rules.specs.Rules.{Sender, Given, work, round, result, tree}
+use Rattle.rules.specs.Rules.{Given, work, round, result, tree}
 use Rattle.rules.specs.Working.{readings_in, worked_out, outcome_of, working_values, working_bytes, told, on_output}
 use Rattle.unfolding.specs.Walks.{unfolded_in}
 use Rattle.cursor.specs.Cursors.{Readable}
 use Rattle.cursor.proofs.Standing.{readable_accepted}
-use Rattle.held.specs.declared.slots.Slots.{Slots}
-use Rattle.held.specs.Slots.{slot_tree, Loaded}
+use Rattle.held.specs.Slots.{slot_tree}
 use Rattle.held.proofs.Senders.{loaded_tree}
 use Rattle.hearing.specs.declared.inputs.Inputs.{Inputs}
 use Rattle.hearing.specs.declared.cursors.Cursors.{Cursors}
-use Rattle.hearing.specs.Hearing.{spots, Gives, Standing, Flags}
+use Rattle.hearing.specs.Hearing.{Gives, Standing, Flags}
 use Rattle.steps.specs.declared.frame.Frame.{Frame}
 use Rattle.steps.specs.Frames.{Framed}
 use Rattle.round.specs.Machines.{Machine, machine, ReadyOne, Worked}
-use Rattle.round.specs.Outcomes.{GivenOut, GivesOut, Supplies, GivesRound}
+use Rattle.round.specs.Outcomes.{GivesOut, Supplies, GivesRound}
 use Rattle.round.proofs.Stacks.{own_at}
 use Rattle.round.proofs.Outputs.{judged, tree_out}
 

@@ -1,5 +1,5 @@
 -- What working an expression in memory asks, and what it leaves. Assumes nothing.
-use Rattle.std.specs.Prelude.{◌≡◌, ℕ, zero, suc, ◌+◌, ◌*◌, ◌<◌, ◌≤◌, Bool, List, [], ◌∷◌, map, length, take}
+use Rattle.std.specs.Prelude.{◌≡◌, ℕ, ◌+◌, ◌*◌, ◌≤◌, Bool, List, [], ◌∷◌, map, length, take}
 use Rattle.kind.specs.Kind.{Meaning}
 use Rattle.program.specs.Expressions.{Expr, Exprs}
 use Rattle.program.specs.Measures.{depth, depth_all, places, places_all, weight, weight_all}

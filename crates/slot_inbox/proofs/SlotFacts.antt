@@ -1,5 +1,5 @@
 -- A slot inbox by its slots.
-use Rattle.std.proofs.Common.{◌≡◌, ℕ, ◌-◌, ◌*◌, ◌<◌, true, List, length, get_or, set, Some, sym, refl, ap, ◌∙◌, arith}
+use Rattle.std.proofs.Common.{◌≡◌, ℕ, ◌*◌, ◌<◌, true, List, length, get_or, set, Some, sym, refl, ap, ◌∙◌, arith}
 use Rattle.std.proofs.lemmas.List.{length-take}
 use Rattle.inbox.specs.Contents.{longest_item, Item, holding}
 use Rattle.inbox.specs.Calls.{holds, without, bytes_of}

@@ -1,10 +1,9 @@
 -- What ifs and exchanges leave behind: cursors, and the record of a row.
-use Rattle.std.proofs.Common.{◌≡◌, ℕ, zero, suc, ◌+◌, ◌<◌, ◌≤◌, List, [], ◌∷◌, map, length, get_or, take, sym, refl, ap, ◌∙◌, subst, arith, length-take-le, get_or-take, ext_get_or}
+use Rattle.std.proofs.Common.{◌≡◌, ℕ, zero, suc, ◌<◌, ◌≤◌, List, [], ◌∷◌, map, length, get_or, take, sym, refl, ap, ◌∙◌, subst, arith, length-take-le, get_or-take, ext_get_or}
 use Rattle.kind.specs.Kind.{Meaning}
 use Rattle.record.specs.Writing.{written_record}
 use Rattle.rules.specs.Rules.{Sender, Field, Given, senders, record_of}
 use Rattle.cursor.proofs.Standing.{stands_later}
-use Rattle.held.specs.declared.slots.Slots.{Slots}
 use Rattle.held.proofs.Senders.{loaded_number}
 use Rattle.hearing.specs.declared.inputs.Inputs.{Inputs}
 use Rattle.hearing.specs.declared.cursors.Cursors.{Cursors}

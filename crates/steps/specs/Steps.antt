@@ -1,6 +1,6 @@
 -- The steps of a round that work no part: leaves, what is made of the rows of parts, and what ifs and exchanges leave
 -- behind. Assumes nothing.
-use Rattle.std.specs.Prelude.{◌≡◌, ℕ, ◌+◌, ◌≤◌, Bool, List, [], ◌∷◌, map, length, take, drop, replicate, slice_index_or}
+use Rattle.std.specs.Prelude.{◌≡◌, ℕ, ◌+◌, ◌≤◌, Bool, List, [], length, take, drop, replicate, slice_index_or}
 use Rattle.std.specs.Option.{unwrap_or}
 use Rattle.kind.specs.Kind.{Meaning}
 use Rattle.program.specs.declared.expression.Expression.{Expression}
@@ -16,7 +16,7 @@ use Rattle.row_stack.specs.Rows.{row, Laid, applied, chosen, gathered, sender_ce
 use Rattle.rules.specs.Rules.{Field, Given, everywhere, links, narrowed, record_of}
 use Rattle.hearing.specs.declared.inputs.Inputs.{Inputs}
 use Rattle.hearing.specs.declared.cursors.Cursors.{Cursors}
-use Rattle.hearing.specs.Hearing.{spots, Gives, Standing, Flags}
+use Rattle.hearing.specs.Hearing.{Gives, Standing, Flags}
 use Rattle.steps.specs.declared.frame.Frame.{Frame}
 use Rattle.steps.specs.Frames.{row_of, Framed}
 

@@ -15,7 +15,7 @@ use Rattle.record.specs.Messages.{message}
 use Rattle.record.specs.Plans.{due}
 use Rattle.record.specs.Trees.{Rec, Tree}
 use Rattle.rules.specs.Laws.{Orderly}
-use Rattle.rules.specs.Rules.{Given, tree, round}
+use Rattle.rules.specs.Rules.{Given, round}
 use Rattle.rules.specs.Working.{readings_in, given_in, other_node, records_by, last_in}
 use Rattle.rules.proofs.Followed.{own_trees_read}
 use Rattle.rules.proofs.Holding.{held_orderly}

@@ -1,10 +1,10 @@
 -- A line without its refused calls, and what holds of the states of a line.
-use Rattle.std.proofs.Common.{◌≡◌, ℕ, ◌+◌, ◌<◌, true, cond, ◌&&◌, leb, List, [], ◌∷◌, ◌++◌, length, take, drop, Some, None, Ok, Err, Option, sym, refl, ap, ◌∙◌, subst, arith}
+use Rattle.std.proofs.Common.{◌≡◌, ℕ, ◌<◌, true, cond, ◌&&◌, leb, List, [], ◌∷◌, ◌++◌, length, take, drop, Some, None, Ok, Err, Option, sym, refl, ap, ◌∙◌, subst, arith}
 use Rattle.std.specs.List.{AllByRecursion as All}
 use Rattle.std.proofs.lemmas.List.{take_at, drop_at}
 use Rattle.std.proofs.lemmas.Bool.{eq-eqb, lt-ltb}
 use Rattle.refusal.specs.declared.cause.Cause.TheVariants as cause
-use Rattle.refusal.specs.Outcomes.{Outcome, must, after}
+use Rattle.refusal.specs.Outcomes.{Outcome, must}
 use Rattle.refusal.proofs.Outcomes.{after_ok, must_ok, ok_same}
 use Rattle.kind.specs.Kind.{Meaning}
 use Rattle.kind.specs.Kind as kind

@@ -20,7 +20,6 @@ use Rattle.program.proofs.Shown.{program_parts, last_in}
 use Rattle.unfolding.specs.Unfolding.{named, unfolded}
 use Rattle.unfolding.specs.Walks.{rows, unfolded_in}
 use Rattle.unfolding.proofs.Checked.{Before, read_unfolds}
-use Rattle.unfolding.proofs.Programs.{wide}
 
 -- a row of the table is that of its function
 row_at : (w : ℕ) (fs : List Unfolded) (n : ℕ) → n < length fs → named (table_of w fs) n ≡ row w (get_or fs n no_function)

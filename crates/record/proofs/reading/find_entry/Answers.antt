@@ -1,4 +1,4 @@
-use Rattle.std.proofs.Common.{◌-◌, sym, ◌∙◌, arith, rules, eq-eqb, ne_eqb}
+use Rattle.std.proofs.Common.{sym, ◌∙◌, arith, rules, eq-eqb, ne_eqb}
 use Rattle.record.proofs.Rows.{behind_next, behind_one, found_here, found_later}
 use Rattle.record.proofs.reading.find_entry.Goals as goal
 

@@ -1,4 +1,4 @@
-use Rattle.std.proofs.Common.{◌+◌, ◌-◌, get_or, arith, length-drop, length-take, rules}
+use Rattle.std.proofs.Common.{◌+◌, get_or, arith, length-drop, length-take, rules}
 use Rattle.record.proofs.Rows.{behind_is}
 use Rattle.record.proofs.record.record_at.Goals as goal
 

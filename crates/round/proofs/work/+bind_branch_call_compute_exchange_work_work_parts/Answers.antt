@@ -1,8 +1,8 @@
-use Rattle.std.proofs.Common.{◌≡◌, ℕ, ◌+◌, ◌-◌, ◌*◌, ◌<◌, ◌≤◌, length, sym, refl, ap, ◌∙◌, arith}
+use Rattle.std.proofs.Common.{ℕ, ◌+◌, ◌-◌, sym, refl, ap, ◌∙◌, arith}
 use Rattle.program.specs.declared.expression.Expression.TheVariants.{Let, If, Call}
 use Rattle.program.specs.declared.function.Function.{Function}
-use Rattle.program.specs.Measures.{places, places_all, depth, weight, record_weight}
-use Rattle.unfolding.specs.Unfolding.{listed, start}
+use Rattle.program.specs.Measures.{places}
+use Rattle.unfolding.specs.Unfolding.{start}
 use Rattle.unfolding.specs.Walks.{unfolded_in}
 use Rattle.round.specs.Machines.{machine}
 use Rattle.round.proofs.Rowing.{row_after_most}

@@ -1,4 +1,4 @@
-use Rattle.std.proofs.Common.{◌≡◌, ℕ, ◌+◌, ◌-◌, ◌*◌, ◌≤◌, Bool, true, false, not, sym, refl, ap, ◌∙◌, arith}
+use Rattle.std.proofs.Common.{ℕ, ◌-◌, ◌*◌, not, ap, ◌∙◌, arith}
 use Rattle.round.proofs.Outputs.{step_mul, loop_refused, loop_passed}
 use Rattle.round.proofs.work_out.check_readings.Goals as goal
 

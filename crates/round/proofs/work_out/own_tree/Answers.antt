@@ -1,4 +1,4 @@
-use Rattle.std.proofs.Common.{◌≡◌, ℕ, sym, ap, ◌∙◌, arith}
+use Rattle.std.proofs.Common.{ℕ, ap, ◌∙◌, arith}
 use Rattle.refusal.specs.Outcomes.{mapped}
 use Rattle.tree.specs.Trees.{tree_in, sender_of}
 use Rattle.round.proofs.Outputs.{own_counts, own_other, own_refused}

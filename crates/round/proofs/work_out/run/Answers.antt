@@ -1,4 +1,4 @@
-use Rattle.std.proofs.Common.{◌≡◌, ℕ, ◌+◌, ◌≤◌, true, replicate, sym, refl, ap, ◌∙◌, subst, arith}
+use Rattle.std.proofs.Common.{sym, refl, ◌∙◌, subst}
 use Rattle.round.specs.Machines.{machine}
 use Rattle.round.specs.Outcomes.{GivesOut}
 use Rattle.round.proofs.Starting.{start_ready, ended, run_out}

@@ -1,5 +1,4 @@
-use Rattle.std.proofs.Common.{◌≡◌, ℕ, ◌≤◌, true, not, sym, ap, ◌∙◌, arith}
-use Rattle.refusal.specs.Outcomes.{mapped}
+use Rattle.std.proofs.Common.{ℕ, sym, ap, ◌∙◌}
 use Rattle.rules.specs.Working.{readings_in}
 use Rattle.round.proofs.Outputs.{judged}
 use Rattle.round.proofs.Starting.{round_worked}

@@ -1,4 +1,4 @@
-use Rattle.std.proofs.Common.{◌≡◌, rules}
+use Rattle.std.proofs.Common.{rules}
 use Rattle.trace.specs.States.{State}
 use Rattle.node.specs.Nodes.{state}
 use Rattle.node.proofs.Calls.{drop_promise}

@@ -1,4 +1,4 @@
-use Rattle.std.proofs.Common.{◌≡◌, sym, rules}
+use Rattle.std.proofs.Common.{rules}
 use Rattle.trace.proofs.Promised.{keeps}
 use Rattle.node.specs.Nodes.{begun}
 use Rattle.node.proofs.node.Node.make.Goals as goal

@@ -1,4 +1,4 @@
-use Rattle.std.proofs.Common.{◌≡◌, ◌+◌, ◌-◌, ◌<◌, length, sym, ap, ◌∙◌, subst, arith}
+use Rattle.std.proofs.Common.{◌≡◌, ◌+◌, ◌<◌, length, sym, ap, ◌∙◌, subst, arith}
 use Rattle.inbox.specs.Contents.{Lawful}
 use Rattle.inbox.specs.Law.{same_contents}
 use Rattle.packed_inbox.specs.Rows.{span}

@@ -1,4 +1,4 @@
-use Rattle.std.proofs.Common.{◌≡◌, ◌-◌, sym, ap, ◌∙◌, arith}
+use Rattle.std.proofs.Common.{◌≡◌, sym, ap, ◌∙◌, arith}
 use Rattle.inbox.specs.Contents.{bytes_held}
 use Rattle.inbox.specs.Search.{no_item}
 use Rattle.packed_inbox.specs.Rows.{span}

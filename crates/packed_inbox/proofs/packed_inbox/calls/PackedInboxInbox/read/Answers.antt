@@ -1,4 +1,4 @@
-use Rattle.std.proofs.Common.{◌≡◌, ℕ, ◌+◌, ◌≤◌, false, ltb, List, ◌++◌, length, get_or, take, drop, Some, Ok, Option, sym, ap, ◌∙◌, arith}
+use Rattle.std.proofs.Common.{◌≡◌, ℕ, ◌≤◌, false, ltb, List, ◌++◌, length, get_or, take, drop, Some, Ok, Option, sym, ap, ◌∙◌, arith}
 use Rattle.refusal.specs.declared.cause.Cause.TheVariants.{BufferShort}
 use Rattle.refusal.specs.Outcomes.{refuse}
 use Rattle.std.proofs.lemmas.Bool.{le-ltb, cond-false}

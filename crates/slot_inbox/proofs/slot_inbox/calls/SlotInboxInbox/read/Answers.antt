@@ -1,4 +1,4 @@
-use Rattle.std.proofs.Common.{◌≡◌, ℕ, ◌+◌, false, ltb, List, ◌++◌, length, get_or, drop, Some, Ok, Option, sym, ap, ◌∙◌, arith}
+use Rattle.std.proofs.Common.{◌≡◌, ℕ, false, ltb, List, ◌++◌, length, get_or, drop, Some, Ok, Option, sym, ap, ◌∙◌, arith}
 use Rattle.inbox.specs.Contents.{longest_item}
 use Rattle.refusal.specs.declared.cause.Cause.TheVariants.{BufferShort}
 use Rattle.refusal.specs.Outcomes.{refuse}
