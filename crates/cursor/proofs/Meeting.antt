@@ -2,7 +2,7 @@
 use Rattle.std.proofs.Common.{◌≡◌, ℕ, ◌+◌, ◌*◌, ◌<◌, ◌≤◌, cond, eqb, List, [], ◌∷◌, ◌++◌, length, take, drop, IfSome, Some, None, Option, sym, refl, ap, ◌∙◌, subst, append_assoc, arith, length-append, length-drop, drop-drop, ne_eqb, le-leb}
 use lib.Seq.{take-append_seam, drop-append_seam}
 use borrow.Author.Tests.{lt-leb}
-use Rattle.std.specs.List.{AllByRecursion as All}
+use Rattle.std.specs.List.{AllByRecursion}
 use Rattle.std.proofs.ByRecursion.{All-push}
 use Rattle.kind.specs.Kind.{Meaning, Lawful}
 use Rattle.record.specs.Fields.{pair_at, pair_of}
@@ -89,7 +89,7 @@ module _ {V : Type 0} (k : Meaning V) (laws : Lawful k) where
           }
 
   -- nothing is said at a place that the records have passed, or have not reached
-  says_behind : (n place : ℕ) (passed ahead : List (Rec V)) → All (λ r. place_of r < place) passed → says n place (passed ++ ahead) ≡ says n place ahead
+  says_behind : (n place : ℕ) (passed ahead : List (Rec V)) → AllByRecursion (λ r. place_of r < place) passed → says n place (passed ++ ahead) ≡ says n place ahead
   says_behind n place [] ahead below = refl
   says_behind n place (r ∷ passed) ahead below = let l = below.0 in rw (ne_eqb (place_of r) place (λ e. omega arith)) (says_behind n place passed ahead below.1)
 
@@ -98,7 +98,7 @@ module _ {V : Type 0} (k : Meaning V) (laws : Lawful k) where
   says_before n place high low (r ∷ rs) (record_then l u f) lt = rw (ne_eqb (place_of r) place (λ e. omega arith)) (says_before n place high (place_of r + 1) rs f (omega arith))
 
   -- what is sound and rises, does so in its last part
-  sound_ahead : (passed ahead : List (Rec V)) → All (Sound k) (passed ++ ahead) → All (Sound k) ahead
+  sound_ahead : (passed ahead : List (Rec V)) → AllByRecursion (Sound k) (passed ++ ahead) → AllByRecursion (Sound k) ahead
   sound_ahead [] ahead s = s
   sound_ahead (r ∷ passed) ahead s = sound_ahead passed ahead s.1
 
@@ -122,7 +122,7 @@ module _ {V : Type 0} (k : Meaning V) (laws : Lawful k) where
           let h = head_some m at r span in
           let reached : place ≤ place_of r = subst (λ (o : Option (ℕ × ℕ)). IfSome o (λ x. place ≤ x.0)) h stops in
           let rises = rising_ahead 65536 0 s.passed (r ∷ rest) (subst (RisingPlaces 65536 0) split readable.rising) in
-          at_record r (sound_ahead s.passed (r ∷ rest) (subst (All (Sound k)) split readable.sound)).0 span h
+          at_record r (sound_ahead s.passed (r ∷ rest) (subst (AllByRecursion (Sound k)) split readable.sound)).0 span h
           (λ n. ap (says n place) split ∙ says_behind n place s.passed (r ∷ rest) s.below ∙ ap (cond (eqb (place_of r) place) (record_says n r)) (after_it n r rest rises.0 reached rises.1))
         where
           after_it : (n : ℕ) (r : Rec V) (rest : List (Rec V)) (low : ℕ) → place ≤ place_of r → RisingPlaces 65536 low (r ∷ rest) → says n place rest ≡ silent

@@ -1,6 +1,6 @@
 -- Where a reader stands, and trees that can be read. Assumes nothing.
 use Rattle.std.proofs.Common.{◌≡◌, ℕ, ◌<◌, ◌≤◌, List, [], drop, Ok, refl, ap, arith}
-use Rattle.std.specs.List.{AllByRecursion as All}
+use Rattle.std.specs.List.{AllByRecursion}
 use Rattle.std.proofs.ByRecursion.{All-append, All-weaker}
 use Rattle.kind.specs.Kind.{Meaning, Lawful}
 use Rattle.program.specs.Expressions.{Expr}
@@ -38,7 +38,7 @@ module _ {V : Type 0} {k : Meaning V} where
   pub readable_none : Readable k [] []
   readable_none = record { behind = refl; short = omega arith; sound = tt; rising = no_record }
 
-  follows_sound : {plan : Plan} {rs : List (Rec V)} → Follows k plan rs → All (Sound k) rs
+  follows_sound : {plan : Plan} {rs : List (Rec V)} → Follows k plan rs → AllByRecursion (Sound k) rs
   follows_sound ended = tt
   follows_sound (sends small few fair) = (sound_sent small few fair, tt)
   follows_sound (first small f) = (sound_choice small, follows_sound f)

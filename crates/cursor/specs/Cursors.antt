@@ -1,6 +1,6 @@
 -- Where a reader stands in the records of a tree, and what is found there. Assumes nothing.
 use Rattle.std.specs.Prelude.{◌≡◌, ℕ, ◌+◌, ◌<◌, ◌≤◌, Bool, false, cond, ◌&&◌, List, ◌++◌, length, drop, Some, None, Option, ◌==◌, nat_le}
-use Rattle.std.specs.List.{AllByRecursion as All}
+use Rattle.std.specs.List.{AllByRecursion}
 use Rattle.kind.specs.Kind.{Meaning}
 use Rattle.record.specs.Fields.{byte_at, pair_at}
 use Rattle.record.specs.Headers.{header_length, most_bytes}
@@ -17,7 +17,7 @@ pub data Sound {V : Type 0} (k : Meaning V) : Rec V → Type 0 where
 pub record Readable {V : Type 0} (k : Meaning V) (m : List ℕ) (rs : List (Rec V)) : Type 0 where
   pub behind : drop header_length m ≡ written_records k rs
   pub short : length m ≤ most_bytes
-  pub sound : All (Sound k) rs
+  pub sound : AllByRecursion (Sound k) rs
   pub rising : RisingPlaces 65536 0 rs
 
 -- `at` is where a record of the tree begins, or its end. The places of all records before it are below `low`
@@ -26,7 +26,7 @@ pub record Stands {V : Type 0} (k : Meaning V) (m : List ℕ) (rs : List (Rec V)
   pub ahead : List (Rec V)
   pub split : rs ≡ passed ++ ahead
   pub here : drop at m ≡ written_records k ahead
-  pub below : All (λ r. place_of r < low) passed
+  pub below : AllByRecursion (λ r. place_of r < low) passed
 
 -- what a tree says at a place, as a value or as a choice
 abbrev pub said_value : {V : Type 0} → Said V → Option V

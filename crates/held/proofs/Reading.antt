@@ -1,7 +1,7 @@
 -- Parts of lent bytes, and reading an item into one.
 use Rattle.std.proofs.Common.{◌≡◌, ℕ, ◌+◌, ◌-◌, ◌<◌, ◌≤◌, min, true, false, cond, eqb, ltb, List, [], ◌∷◌, ◌++◌, length, take, drop, Some, None, Ok, Err, Option, unwrap_or, sym, refl, ap, ◌∙◌, subst, ⊎_elim, arith, le-ltb}
 use borrow.Rule.Slice.PartMut.{put_mid}
-use Rattle.std.specs.List.{AllByRecursion as All}
+use Rattle.std.specs.List.{AllByRecursion}
 use Rattle.std.proofs.lemmas.Bool.{cases_lt, cases_Bool}
 use Rattle.std.proofs.lemmas.List.{append_assoc, length-take-le, length-drop, take_all, drop_all, take-take, take_at, drop_at, drop-take, drop-append-le, take-append-drop}
 use Rattle.refusal.specs.declared.cause.Cause.TheVariants.{BufferShort}
@@ -44,7 +44,7 @@ abbrev pub answer_size : Outcome (Option ℕ) → ℕ
 answer_size (Ok found) = unwrap_or found 0
 answer_size (Err r) = 0
 
-short_item : (is : List Item) (s : ℕ) (x : List ℕ) → All (λ i. length i.bytes ≤ longest_item) is → bytes_of is s ≡ Some x → length x ≤ longest_item
+short_item : (is : List Item) (s : ℕ) (x : List ℕ) → AllByRecursion (λ i. length i.bytes ≤ longest_item) is → bytes_of is s ≡ Some x → length x ≤ longest_item
 short_item [] s x h e = absurd (let z : ◌≡◌ {A = ℕ} 0 1 = cc in let y : ⊥ = omega arith in y)
 short_item (i ∷ is) s x h e = ⊎_elim
     (λ (t : eqb i.sender s ≡ true). let f : Some i.bytes ≡ Some x = rw t at e in let g : i.bytes ≡ x = cc in subst (λ (y : List ℕ). length y ≤ longest_item) g h.0)

@@ -1,6 +1,6 @@
 -- Loading over the held senders, turn by turn.
 use Rattle.std.proofs.Common.{◌≡◌, ℕ, suc, ◌+◌, ◌*◌, ◌<◌, ◌≤◌, List, [], ◌∷◌, ◌++◌, length, get_or, take, drop, Some, None, Option, sym, refl, ap, ◌∙◌, subst, arith}
-use Rattle.std.specs.List.{AllByRecursion as All}
+use Rattle.std.specs.List.{AllByRecursion}
 use Rattle.std.proofs.ByRecursion.{All-weaker, All-get_or, All-from_get_or}
 use Rattle.std.proofs.lemmas.List.{drop_more, length-take-le, take_all, take_at, take_more}
 use Rattle.kind.specs.Kind.{Meaning}
@@ -103,7 +103,7 @@ module _ {V : Type 0} (k : Meaning V) (p : Program) (me : ℕ) where
       pub sofar_rises : (from ≤ s) × (s < 65536)
       sofar_rises =
           let here = found.1 in
-          let up = (subst (All (λ (x : Item). from ≤ x.sender)) (drop_more c.items h.passed no_item found.0) h.bound.above).0 in
+          let up = (subst (AllByRecursion (λ (x : Item). from ≤ x.sender)) (drop_more c.items h.passed no_item found.0) h.bound.above).0 in
           let small = All-get_or (λ (x : Item). x.sender < 65536) c.items h.passed no_item found.0 ok.numbers in
           (omega arith, omega arith)
 

@@ -2,7 +2,7 @@
 use Rattle.std.proofs.Common.{◌≡◌, ℕ, suc, ◌+◌, ◌*◌, ◌<◌, ◌≤◌, Bool, true, false, cond, not, ◌&&◌, eqb, ltb, leb, List, [], ◌∷◌, ◌++◌, length, get_or, take, drop, set, Some, None, Ok, Err, sym, refl, ap, ◌∙◌, subst, ⊎_elim, add-one, arith}
 use Rattle.refusal.specs.declared.cause.Cause.TheVariants.{ItemTooLong, SendersFull, BytesFull}
 use Rattle.refusal.specs.Outcomes.{Outcome, refuse}
-use Rattle.std.specs.List.{AllByRecursion as All, remove, insert}
+use Rattle.std.specs.List.{AllByRecursion, remove, insert}
 use Rattle.std.proofs.ByRecursion.{All-weaker, All-more, All-drop}
 use Rattle.std.proofs.lemmas.Bool.{lt-ltb, le-ltb, ne_eqb, eq-eqb, eqb-false, cases_Bool, true≢false, false≢true, cases_lt, ltb-false, leb-false, and_cases, not-false, cond-false}
 use Rattle.std.proofs.lemmas.List.{take-append-drop, drop_more, drop_all, get_or_default, set_split, take_more_set, drop-set-lt, append_assoc, append-nil, take_at, drop_at, take_all, length-take-le}
@@ -13,14 +13,14 @@ use Rattle.inbox.specs.Search.{LowerBound, Finds, no_item}
 
 -- all senders are below s, and all are above s
 abbrev pub Below : ℕ → List Item → Type 0
-Below s is = All (λ i. i.sender < s) is
+Below s is = AllByRecursion (λ i. i.sender < s) is
 
 abbrev pub Above : ℕ → List Item → Type 0
-Above s is = All (λ i. s < i.sender) is
+Above s is = AllByRecursion (λ i. s < i.sender) is
 
 -- ---- items of other senders are passed over
 abbrev pub Apart : ℕ → List Item → Type 0
-Apart s is = All (λ i. i.sender ≡ s → ⊥) is
+Apart s is = AllByRecursion (λ i. i.sender ≡ s → ⊥) is
 
 pub apart_above : (s : ℕ) (is : List Item) → Above s is → Apart s is
 apart_above s is h = All-weaker (λ i. s < i.sender) (λ i. i.sender ≡ s → ⊥) (λ i l e. omega arith) is h
@@ -69,15 +69,15 @@ with_above [] x h = refl
 with_above (i ∷ q) x h = rw (le-ltb i.sender x.sender (omega (arith, h.0)))
 
 -- ---- what always holds, with one item more or less
-all_cut : {X : Type 0} (P : X → Type 0) (p q : List X) (x : X) → All P (p ++ x ∷ q) → All P (p ++ q)
+all_cut : {X : Type 0} (P : X → Type 0) (p q : List X) (x : X) → AllByRecursion P (p ++ x ∷ q) → AllByRecursion P (p ++ q)
 all_cut P [] q x h = h.1
 all_cut P (i ∷ p) q x h = (h.0, all_cut P p q x h.1)
 
-all_with : {X : Type 0} (P : X → Type 0) (p q : List X) (x : X) → P x → All P (p ++ q) → All P (p ++ x ∷ q)
+all_with : {X : Type 0} (P : X → Type 0) (p q : List X) (x : X) → P x → AllByRecursion P (p ++ q) → AllByRecursion P (p ++ x ∷ q)
 all_with P [] q x px h = (px, h)
 all_with P (i ∷ p) q x px h = (h.0, all_with P p q x px h.1)
 
-all_here : {X : Type 0} (P : X → Type 0) (p q : List X) (x : X) → All P (p ++ x ∷ q) → P x
+all_here : {X : Type 0} (P : X → Type 0) (p q : List X) (x : X) → AllByRecursion P (p ++ x ∷ q) → P x
 all_here P [] q x h = h.0
 all_here P (i ∷ p) q x h = all_here P p q x h.1
 
@@ -173,19 +173,19 @@ bound_here is s i d rises h low here =
     record {
       in_range = omega arith;
       below = low;
-      above = subst (All (λ x. s ≤ x.sender)) (sym (drop_more is i d h ∙ ap (λ n. get_or is i d ∷ drop n is) (add-one i)))
+      above = subst (AllByRecursion (λ x. s ≤ x.sender)) (sym (drop_more is i d h ∙ ap (λ n. get_or is i d ∷ drop n is) (add-one i)))
           (here, All-weaker (λ x. (get_or is i d).sender < x.sender) (λ x. s ≤ x.sender) (λ x l. omega arith) (drop (suc i) is) up);
     }
 
 pub bound_end : (is : List Item) (s i : ℕ) → length is ≡ i → Below s (take i is) → LowerBound is s i
-bound_end is s i e low = record { in_range = omega arith; below = low; above = subst (All (λ x. s ≤ x.sender)) (sym (drop_all i is (omega arith))) tt }
+bound_end is s i e low = record { in_range = omega arith; below = low; above = subst (AllByRecursion (λ x. s ≤ x.sender)) (sym (drop_all i is (omega arith))) tt }
 
 -- ---- a new item at its lower bound
 module _ (is : List Item) (s i : ℕ) (here : LowerBound is s i) (free : holds is s ≡ false) where
   pub bound_above : Above s (drop i is)
   bound_above = strict (drop i is) here.above (All-drop (λ x. x.sender ≡ s → ⊥) i is (apart_not_held s is free))
     where
-      strict : (q : List Item) → All (λ x. s ≤ x.sender) q → Apart s q → Above s q
+      strict : (q : List Item) → AllByRecursion (λ x. s ≤ x.sender) q → Apart s q → Above s q
       strict [] h a = tt
       strict (x ∷ q) h a = (lt_of_le_of_ne h.0 (λ e. a.0 (sym e)), strict q h.1 a.1)
 
@@ -222,7 +222,7 @@ lawful_older b i h l young =
 pub apart_more : (s : ℕ) (is : List Item) (i : ℕ) (d : Item) → i < length is → Apart s (take i is) → ((get_or is i d).sender ≡ s → ⊥) → Apart s (take (i + 1) is)
 apart_more s is i d h low here = All-more (λ x. x.sender ≡ s → ⊥) is i d h low here
 
-pub bytes_held_le : (is : List Item) → All (λ i. length i.bytes ≤ longest_item) is → bytes_held is ≤ longest_item * length is
+pub bytes_held_le : (is : List Item) → AllByRecursion (λ i. length i.bytes ≤ longest_item) is → bytes_held is ≤ longest_item * length is
 bytes_held_le [] h = omega arith
 bytes_held_le (i ∷ is) h = let a = h.0 in omega (arith, bytes_held_le is h.1)
 
@@ -232,7 +232,7 @@ bytes_held_removed is i d h = sym (ap bytes_held (split_row is i d h) ∙ bytes_
 pub next_some : (is : List Item) (k i : ℕ) (d : Item) → LowerBound is k i → i < length is → next_sender is k ≡ Some (get_or is i d).sender
 next_some is k i d here h =
     let e : drop i is ≡ get_or is i d ∷ drop (i + 1) is = drop_more is i d h in
-    let up : k ≤ (get_or is i d).sender = (subst (All (λ x. k ≤ x.sender)) e here.above).0 in
+    let up : k ≤ (get_or is i d).sender = (subst (AllByRecursion (λ x. k ≤ x.sender)) e here.above).0 in
     ap (λ l. next_sender l k) (sym (take-append-drop i is)) ∙ next_skip (take i is) (drop i is) k here.below ∙ ap (λ l. next_sender l k) e ∙ rw (le-ltb (get_or is i d).sender k up)
 
 pub next_none : (is : List Item) (k i : ℕ) → LowerBound is k i → length is ≤ i → next_sender is k ≡ None
@@ -323,7 +323,7 @@ bytes_held_without (i ∷ is) s = ⊎_elim
     (cases_Bool (eqb i.sender s))
 
 -- ---- what always holds, of the lists that put and remove give
-all_without : (P : Item → Type 0) (is : List Item) (s : ℕ) → All P is → All P (without is s)
+all_without : (P : Item → Type 0) (is : List Item) (s : ℕ) → AllByRecursion P is → AllByRecursion P (without is s)
 all_without P [] s h = tt
 all_without P (i ∷ is) s h = ⊎_elim
     (λ (e : eqb i.sender s ≡ true). rw e (all_without P is s h.1))
@@ -395,11 +395,11 @@ lawful_with_item b x h free number few fits young within =
     (lawful_with b k.front k.back x (subst (λ is. Lawful (holding b is)) k.whole h) k.low k.high number
     (subst (λ is. length is < b.sender_limit) k.whole few) fits young (subst (λ is. bytes_held is + length x.bytes ≤ b.byte_limit) k.whole within))
 
-pub all_of_with : (P : Item → Type 0) (is : List Item) (x : Item) → All P (with_item is x) → P x
+pub all_of_with : (P : Item → Type 0) (is : List Item) (x : Item) → AllByRecursion P (with_item is x) → P x
 all_of_with P [] x h = h.0
 all_of_with P (i ∷ is) x h = ⊎_elim
-    (λ (e : ltb i.sender x.sender ≡ true). let h' : All P (i ∷ with_item is x) = rw e at h in all_of_with P is x h'.1)
-    (λ (e : ltb i.sender x.sender ≡ false). let h' : All P (x ∷ (i ∷ is)) = rw e at h in h'.0)
+    (λ (e : ltb i.sender x.sender ≡ true). let h' : AllByRecursion P (i ∷ with_item is x) = rw e at h in all_of_with P is x h'.1)
+    (λ (e : ltb i.sender x.sender ≡ false). let h' : AllByRecursion P (x ∷ (i ∷ is)) = rw e at h in h'.0)
     (cases_Bool (ltb i.sender x.sender))
 
 pub bytes_held_with : (is : List Item) (x : Item) → bytes_held (with_item is x) ≡ bytes_held is + length x.bytes

@@ -1,6 +1,6 @@
 -- What an inbox holds, and what always holds of that. Assumes nothing.
 use Rattle.std.specs.Prelude.{◌≡◌, ℕ, ◌+◌, ◌<◌, ◌≤◌, Bool, true, List, [], ◌∷◌, length, nat_lt}
-use Rattle.std.specs.List.{AllByRecursion as All}
+use Rattle.std.specs.List.{AllByRecursion}
 
 -- the longest item in bytes, the highest sender limit and the longest life
 abbrev pub longest_item : ℕ
@@ -36,7 +36,7 @@ bytes_held (i ∷ is) = length i.bytes + bytes_held is
 
 abbrev pub Rising : List Item → Type 0
 Rising [] = Unit {0}
-Rising (i ∷ is) = All (λ j. i.sender < j.sender) is × Rising is
+Rising (i ∷ is) = AllByRecursion (λ j. i.sender < j.sender) is × Rising is
 
 -- what always holds of an inbox
 pub record Lawful (c : Contents) : Type 0 where
@@ -49,10 +49,10 @@ pub record Lawful (c : Contents) : Type 0 where
   pub few : length c.items ≤ c.sender_limit
   -- one item a sender, by rising sender
   pub rising : Rising c.items
-  pub numbers : All (λ i. i.sender < 65536) c.items
+  pub numbers : AllByRecursion (λ i. i.sender < 65536) c.items
   -- no item is longer than the longest, and none has ended
-  pub fits : All (λ i. length i.bytes ≤ longest_item) c.items
-  pub young : All (λ i. lasts c.life i.age ≡ true) c.items
+  pub fits : AllByRecursion (λ i. length i.bytes ≤ longest_item) c.items
+  pub young : AllByRecursion (λ i. lasts c.life i.age ≡ true) c.items
   -- the items are together within the byte limit
   pub within : bytes_held c.items ≤ c.byte_limit
 

@@ -4,10 +4,10 @@ use Rattle.std.proofs.Math.Bool.{Bool-set}
 use mathlib.Core.HLevel.{×_prop, Unit-prop}
 use Rattle.std.proofs.Math.Logic.{∥∥₁_elim}
 use Rattle.std.proofs.Math.Bridge.{le_prop}
-use Rattle.std.specs.List.{AllByRecursion as All}
+use Rattle.std.specs.List.{AllByRecursion}
 use Rattle.inbox.specs.Contents.{Item, Contents, Rising, Lawful, lasts, holding, longest_item}
 
-all_prop : {X : Type 0} (P : X → Type 0) → ((x : X) → IsProp (P x)) → (xs : List X) → IsProp (All P xs)
+all_prop : {X : Type 0} (P : X → Type 0) → ((x : X) → IsProp (P x)) → (xs : List X) → IsProp (AllByRecursion P xs)
 all_prop P h [] = Unit-prop
 all_prop P h (x ∷ xs) = ×_prop (h x) (all_prop P h xs)
 

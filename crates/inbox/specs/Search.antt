@@ -1,6 +1,6 @@
 -- Where a sender stands among the items; for code that searches a row of items or goes over the held senders. Assumes nothing.
 use Rattle.std.specs.Prelude.{◌≡◌, ℕ, ◌<◌, ◌≤◌, true, false, List, [], length, take, drop, Some, None, Option, slice_index_or}
-use Rattle.std.specs.List.{remove, AllByRecursion as All}
+use Rattle.std.specs.List.{remove, AllByRecursion}
 use Rattle.inbox.specs.Contents.{Item}
 use Rattle.inbox.specs.Calls.{holds, without, bytes_of}
 
@@ -10,8 +10,8 @@ no_item = record { sender = 0; age = 0; bytes = [] }
 -- i is the index of the first item whose sender is at least s
 pub record LowerBound (is : List Item) (s i : ℕ) : Type 0 where
   pub in_range : i ≤ length is
-  pub below : All (λ x. x.sender < s) (take i is)
-  pub above : All (λ x. s ≤ x.sender) (drop i is)
+  pub below : AllByRecursion (λ x. x.sender < s) (take i is)
+  pub above : AllByRecursion (λ x. s ≤ x.sender) (drop i is)
 
 -- i is the index of the item of s
 pub record Finding (is : List Item) (s i : ℕ) : Type 0 where

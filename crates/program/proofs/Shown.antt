@@ -4,7 +4,7 @@ use mathlib.Core.Bool.{Bool-set}
 use mathlib.Core.Logic.{∥∥₁_elim}
 use lib.ListN.{length-map, get_or-map}
 use base.Stored.{Coded-set}
-use Rattle.std.specs.List.{AllByRecursion as All}
+use Rattle.std.specs.List.{AllByRecursion}
 use Rattle.std.proofs.ByRecursion.{All-push, All-get_or}
 use Rattle.std.proofs.lemmas.List.{get_or_append_left, get_or_default, get_or_past}
 use Rattle.std.proofs.lemmas.Bool.Decides.{nat_tests}
@@ -66,7 +66,7 @@ pub record Kept (w : ℕ) (b : List ℕ) (f : Unfolded) : Type 0 where
 
 pub record Found (w : ℕ) (b : List ℕ) (n : ℕ) (fs gs : List Unfolded) : Type 0 where
   pub many : length gs ≡ length fs + n
-  pub all : All (Kept w b) gs
+  pub all : AllByRecursion (Kept w b) gs
 
 module _ (k : KindShape) (sensors : ℕ) (b : List ℕ) where
   fits_inside : (at : ℕ) → part_fits b at ≡ true → at + 3 ≤ length b
@@ -85,8 +85,8 @@ module _ (k : KindShape) (sensors : ℕ) (b : List ℕ) where
       gives_after (Kept k.width b) (must (within_limits (sizes_of k.width e.0)) cause.FunctionTooLarge at) _ (λ _ w.
       gives_ok (Kept k.width b) _ (record { limited = must_ok _ _ _ _ w; inside = fits_inside at (must_ok _ _ _ _ fit); few = few_parameters _ _ (must_ok _ _ _ _ few) })))))))
 
-  functions_found : (n at : ℕ) (fs gs : List Unfolded) → All (Kept k.width b) fs → functions none_refused k sensors b n at fs ≡ Ok gs → Found k.width b n fs gs
-  functions_found zero at fs gs h e = let s : fs ≡ gs = ok_same fs gs e in record { many = rw (← s) (omega arith); all = subst (All (Kept k.width b)) s h }
+  functions_found : (n at : ℕ) (fs gs : List Unfolded) → AllByRecursion (Kept k.width b) fs → functions none_refused k sensors b n at fs ≡ Ok gs → Found k.width b n fs gs
+  functions_found zero at fs gs h e = let s : fs ≡ gs = ok_same fs gs e in record { many = rw (← s) (omega arith); all = subst (AllByRecursion (Kept k.width b)) s h }
   functions_found (suc n) at fs gs h e =
       let f = after_ok (function none_refused k sensors b fs (eqb n 0) at) _ gs e in
       let r = functions_found n f.0.end (fs ++ (f.0 ∷ [])) gs (All-push (Kept k.width b) fs f.0 h (function_kept fs (eqb n 0) at f.0 f.1)) f.2 in

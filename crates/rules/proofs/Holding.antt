@@ -1,7 +1,7 @@
 -- What a lawful inbox holds is in order for a round.
 use Rattle.std.proofs.Common.{◌≡◌, ℕ, ◌+◌, ◌<◌, ◌≤◌, Bool, true, false, cond, not, ◌&&◌, eqb, leb, ◌≢◌, List, [], ◌∷◌, length, take, drop, Some, None, Ok, Err, Option, sym, refl, ap, ◌∙◌, subst, arith, eqb-true}
 use borrow.Author.Tests.{eqb-false, not-true}
-use Rattle.std.specs.List.{AllByRecursion as All}
+use Rattle.std.specs.List.{AllByRecursion}
 use Rattle.refusal.specs.Outcomes.{Outcome, must}
 use Rattle.refusal.proofs.Outcomes.{after_ok, must_ok, ok_same}
 use Rattle.kind.specs.Kind.{Meaning}
@@ -67,11 +67,11 @@ module _ {V : Type 0} (k : Meaning V) (plan : Plan) (program me : ℕ) where
       go not_held h = h
       go (is_held e d) h = from (λ f. d (sym e ∙ sym f)) h
 
-  rising_held : (low : ℕ) (is : List Item) → All (λ j. low ≤ j.sender) is → Rising is → All (λ j. j.sender < 65536) is → RisingNumbers low (senders (held_in k plan program me is))
+  rising_held : (low : ℕ) (is : List Item) → AllByRecursion (λ j. low ≤ j.sender) is → Rising is → AllByRecursion (λ j. j.sender < 65536) is → RisingNumbers low (senders (held_in k plan program me is))
   rising_held low [] a r s = no_number
   rising_held low (i ∷ is) a r s = go (taken i) (rising_held (i.sender + 1) is (above is r.0) r.1 s.1) (rising_held low is a.1 r.1 s.1)
     where
-      above : (js : List Item) → All (λ j. i.sender < j.sender) js → All (λ j. i.sender + 1 ≤ j.sender) js
+      above : (js : List Item) → AllByRecursion (λ j. i.sender < j.sender) js → AllByRecursion (λ j. i.sender + 1 ≤ j.sender) js
       above [] h = tt
       above (j ∷ js) h = (omega (arith, h.0), above js h.1)
 
@@ -79,7 +79,7 @@ module _ {V : Type 0} (k : Meaning V) (plan : Plan) (program me : ℕ) where
       go not_held x y = y
       go (is_held e d) x y = number_then (omega (arith, e, a.0)) (omega (arith, e, s.0)) (subst (λ (n : ℕ). RisingNumbers (n + 1) (senders (held_in k plan program me is))) (sym e) x)
 
-  all_low : (is : List Item) → All (λ j. 0 ≤ j.sender) is
+  all_low : (is : List Item) → AllByRecursion (λ j. 0 ≤ j.sender) is
   all_low [] = tt
   all_low (i ∷ is) = (omega arith, all_low is)
 

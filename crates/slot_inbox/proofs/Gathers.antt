@@ -1,6 +1,6 @@
 -- Items in slots.
 use Rattle.std.proofs.Common.{◌≡◌, ℕ, zero, suc, ◌+◌, ◌<◌, ◌≤◌, Bool, true, false, cond, eqb, ltb, List, [], ◌∷◌, ◌++◌, map, length, get_or, take, drop, set, replicate, Some, None, Option, sym, refl, ap, ◌∙◌, subst, ⊎_elim, arith}
-use Rattle.std.specs.List.{AllByRecursion as All}
+use Rattle.std.specs.List.{AllByRecursion}
 use Rattle.std.proofs.lemmas.Bool.{lt-ltb, le-ltb, ne_eqb, eq-eqb, eqb-false, eqb-true, cases_Bool, true≢false, false≢true, cases_lt, cases_eq, ltb-true, ltb-false}
 use Rattle.std.proofs.lemmas.List.{set-set, set-get_or, length-set, get_or-set_same, drop_more, get_or-set_other, get_or-replicate, take_more_set, drop-set-lt, append_assoc}
 use Rattle.inbox.specs.Contents.{lasts, Item, Contents, Rising, Lawful, bytes_held, holding, longest_item}
@@ -232,8 +232,8 @@ module _ (b : Contents) (ss : List Slot) (i : ℕ) (d : Slot) (h : i < length ss
       let same : set ss₀ i s' ≡ set ss i s' = set-set ss i (emptied s) s' in
       let n = ap length was ∙ length_with (gathered ss₀) (slot_item s) in
       let w = ap bytes_held was ∙ bytes_held_with (gathered ss₀) (slot_item s) in
-      let fit = all_of_with (λ (x : Item). length x.bytes ≤ longest_item) (gathered ss₀) (slot_item s) (subst (All (λ (x : Item). length x.bytes ≤ longest_item)) was ok.fits) in
-      let number = all_of_with (λ (x : Item). x.sender < 65536) (gathered ss₀) (slot_item s) (subst (All (λ (x : Item). x.sender < 65536)) was ok.numbers) in
+      let fit = all_of_with (λ (x : Item). length x.bytes ≤ longest_item) (gathered ss₀) (slot_item s) (subst (AllByRecursion (λ (x : Item). length x.bytes ≤ longest_item)) was ok.fits) in
+      let number = all_of_with (λ (x : Item). x.sender < 65536) (gathered ss₀) (slot_item s) (subst (AllByRecursion (λ (x : Item). x.sender < 65536)) was ok.numbers) in
       record {
         distinct = subst Distinct same (distinct_filled ss₀ i d s' l f e free low.distinct);
         lawful = subst (λ is. Lawful (holding b is)) (sym (filled_slot ss₀ i d s' l f e free) ∙ ap gathered same)
@@ -263,7 +263,7 @@ module _ (b : Contents) (ss : List Slot) (i : ℕ) (d : Slot) (h : i < length ss
   was = let_go_is ss i d (emptied (get_or ss i d)) h k e refl
 
   pub young_at : lasts b.life (get_or ss i d).age ≡ true
-  young_at = all_of_with (λ (x : Item). lasts b.life x.age ≡ true) (gathered (set ss i (emptied (get_or ss i d)))) (slot_item (get_or ss i d)) (subst (All (λ (x : Item). lasts b.life x.age ≡ true)) was ok.young)
+  young_at = all_of_with (λ (x : Item). lasts b.life x.age ≡ true) (gathered (set ss i (emptied (get_or ss i d)))) (slot_item (get_or ss i d)) (subst (AllByRecursion (λ (x : Item). lasts b.life x.age ≡ true)) was ok.young)
 
 pub whole_set : (ss : List Slot) (i : ℕ) (s : Slot) → i < length ss → Whole s → AllWhole ss → AllWhole (set ss i s)
 whole_set ss i s h w all k l = ⊎_elim

@@ -1,6 +1,6 @@
 -- Who is held at the end of a line, and with what.
 use Rattle.std.proofs.Common.{◌≡◌, ℕ, ◌+◌, ◌<◌, ◌≤◌, Bool, true, false, cond, eqb, ◌⊎◌, List, [], ◌∷◌, ◌++◌, map, length, take, drop, is_some, Some, None, Option, sym, refl, ap, ◌∙◌, subst, inl, inr, ⊎_elim, arith}
-use Rattle.std.specs.List.{AllByRecursion as All}
+use Rattle.std.specs.List.{AllByRecursion}
 use Rattle.std.proofs.ByRecursion.{All-weaker}
 use Rattle.std.proofs.lemmas.List.{take_at, drop_at}
 use Rattle.std.proofs.lemmas.Bool.{cases_Bool, eqb-true, eqb-false, eq-eqb, ne_eqb, ltb-true, lt-ltb}
@@ -181,7 +181,7 @@ Wide w (delivered s link m) = length link ≡ w
 Wide w (dropped s) = Unit {0}
 Wide w (worked r) = Unit {0}
 
-all_here : {X : Type 0} (P : X → Type 0) (p q : List X) (x : X) → All P (p ++ x ∷ q) → P x
+all_here : {X : Type 0} (P : X → Type 0) (p q : List X) (x : X) → AllByRecursion P (p ++ x ∷ q) → P x
 all_here P [] q x h = h.0
 all_here P (i ∷ p) q x h = all_here P p q x h.1
 
@@ -197,21 +197,21 @@ module _ {V : Type 0} (k : Meaning V) (law : Lawful k) where
       run_look n (aging s.inbox.life o) r (well_turn k law (turned b vs u e) w)
       (look_aged s.inbox.life n s.inbox.items w.lawful.rising ∙ ap (pass s.inbox.life) h ∙ item_aging s.inbox.life n o)
 
-  all_wide : {s t : State} {es : List (Event V)} → Turns k s es t → All (Wide k.width) es
+  all_wide : {s t : State} {es : List (Event V)} → Turns k s es t → AllByRecursion (Wide k.width) es
   all_wide over = tt
   all_wide (more (took {link = link} a) r) = (link_wide k law link a.value a.linked, all_wide r)
   all_wide (more (went i) r) = (tt, all_wide r)
   all_wide (more (turned b vs u e) r) = (tt, all_wide r)
 
   latest_wide : {s t : State} {es : List (Event V)} (life n : ℕ) (link m : List ℕ) → Turns k s es t → Latest life n link m es → length link ≡ k.width
-  latest_wide life n link m r h = all_here (Wide k.width) h.before h.since (delivered n link m) (subst (All (Wide k.width)) h.whole (all_wide r))
+  latest_wide life n link m r h = all_here (Wide k.width) h.before h.since (delivered n link m) (subst (AllByRecursion (Wide k.width)) h.whole (all_wide r))
 
   -- ---- what a round counts
   module _ (p : Program) (me : ℕ) where
     abbrev all_held : List Item → List (Sender V)
     all_held is = held_in k (due (run_of p) 0) (shown p).header.number me is
 
-    passes_counted : (is : List Item) → All (Passes k p me) is → senders (all_held is) ≡ map sender_of is
+    passes_counted : (is : List Item) → AllByRecursion (Passes k p me) is → senders (all_held is) ≡ map sender_of is
     passes_counted [] h = refl
     passes_counted (i ∷ is) h =
         ap (λ (o : Option (Sender V)). senders (before o (all_held is))) (passes_in k i h.0)
@@ -223,7 +223,7 @@ module _ {V : Type 0} (k : Meaning V) (law : Lawful k) where
       own : i.sender ≡ n
       held : held_of n (all_held is) ≡ Some (sender_from k i pass)
 
-    seen : (n : ℕ) (is : List Item) → All (Passes k p me) is → (i : Item) → look n is ≡ Some i → Seen n is i
+    seen : (n : ℕ) (is : List Item) → AllByRecursion (Passes k p me) is → (i : Item) → look n is ≡ Some i → Seen n is i
     seen n [] h i e = absurd (let z : ◌≡◌ {A = ℕ} 0 1 = cc in let y : ⊥ = omega arith in y)
     seen n (j ∷ is) h i e = ⊎_elim
         (λ (t : eqb j.sender n ≡ true). let u : Some j ≡ Some i = rw t at e in let v : j ≡ i = cc in

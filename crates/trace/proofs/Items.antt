@@ -1,27 +1,27 @@
 -- What the calls of an inbox do to all items, and to what is known of one sender.
 use Rattle.std.proofs.Common.{◌≡◌, ℕ, ◌+◌, ◌<◌, ◌≤◌, Bool, true, false, cond, eqb, ltb, List, [], ◌∷◌, length, Some, None, Option, sym, refl, ap, ◌∙◌, subst, ⊎_elim, arith}
-use Rattle.std.specs.List.{AllByRecursion as All}
+use Rattle.std.specs.List.{AllByRecursion}
 use Rattle.std.proofs.lemmas.Bool.{cases_Bool, eqb-true, eqb-false, ne_eqb, ltb-true}
 use Rattle.inbox.specs.Contents.{Item, Contents, Rising, Lawful, lasts, bytes_held, holding, longest_item}
 use Rattle.inbox.specs.Calls.{without, with_item, aged, older, bytes_of}
 use Rattle.inbox.proofs.Items.{Above}
 
 -- ---- what holds of all items
-pub all_without : (P : Item → Type 0) (is : List Item) (s : ℕ) → All P is → All P (without is s)
+pub all_without : (P : Item → Type 0) (is : List Item) (s : ℕ) → AllByRecursion P is → AllByRecursion P (without is s)
 all_without P [] s h = tt
 all_without P (i ∷ is) s h = ⊎_elim
     (λ (e : eqb i.sender s ≡ true). rw e (all_without P is s h.1))
     (λ (e : eqb i.sender s ≡ false). rw e (h.0, all_without P is s h.1))
     (cases_Bool (eqb i.sender s))
 
-pub all_with_item : (P : Item → Type 0) (is : List Item) (x : Item) → P x → All P is → All P (with_item is x)
+pub all_with_item : (P : Item → Type 0) (is : List Item) (x : Item) → P x → AllByRecursion P is → AllByRecursion P (with_item is x)
 all_with_item P [] x px h = (px, tt)
 all_with_item P (i ∷ is) x px h = ⊎_elim
     (λ (e : ltb i.sender x.sender ≡ true). rw e (h.0, all_with_item P is x px h.1))
     (λ (e : ltb i.sender x.sender ≡ false). rw e (px, h))
     (cases_Bool (ltb i.sender x.sender))
 
-pub all_aged : (P Q : Item → Type 0) (life : ℕ) → ((i : Item) → P i → lasts life (i.age + 1) ≡ true → Q (older i)) → (is : List Item) → All P is → All Q (aged life is)
+pub all_aged : (P Q : Item → Type 0) (life : ℕ) → ((i : Item) → P i → lasts life (i.age + 1) ≡ true → Q (older i)) → (is : List Item) → AllByRecursion P is → AllByRecursion Q (aged life is)
 all_aged P Q life f [] h = tt
 all_aged P Q life f (i ∷ is) h = ⊎_elim
     (λ (e : lasts life (i.age + 1) ≡ true). rw e (f i h.0 e, all_aged P Q life f is h.1))

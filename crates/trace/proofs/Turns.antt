@@ -1,6 +1,6 @@
 -- A line without its refused calls, and what holds of the states of a line.
 use Rattle.std.proofs.Common.{◌≡◌, ℕ, ◌<◌, true, cond, ◌&&◌, leb, List, [], ◌∷◌, ◌++◌, length, take, drop, Some, None, Ok, Err, Option, sym, refl, ap, ◌∙◌, subst, arith}
-use Rattle.std.specs.List.{AllByRecursion as All}
+use Rattle.std.specs.List.{AllByRecursion}
 use Rattle.std.proofs.lemmas.List.{take_at, drop_at}
 use Rattle.std.proofs.lemmas.Bool.{eq-eqb, lt-ltb}
 use Rattle.refusal.specs.declared.cause.Cause.TheVariants as cause
@@ -104,7 +104,7 @@ module _ {V : Type 0} (k : Meaning V) where
   each_did (round_on b values bytes output) s bs = round_did s b values bytes output _ refl
 
   -- refused calls leave no trace
-  pub turns : (s : State) (cs : List Call) → All OfBytes cs → Turns s (history k s cs) (after_calls k s cs)
+  pub turns : (s : State) (cs : List Call) → AllByRecursion OfBytes cs → Turns s (history k s cs) (after_calls k s cs)
   turns s [] h = over
   turns s (c ∷ cs) h = go (each_did c s h.0) (turns (after_call k s c) cs h.1)
     where
@@ -135,7 +135,7 @@ module _ {V : Type 0} (k : Meaning V) where
     pub node : s.number < 65536
     pub program : (shown s.program).header.number < 4294967296
     pub lawful : Lawful s.inbox
-    pub pass : All (Passes s.program s.number) s.inbox.items
+    pub pass : AllByRecursion (Passes s.program s.number) s.inbox.items
 
   module _ (law : kind.Lawful k) where
     pub link_wide : (link : List ℕ) (v : V) → k.read link ≡ Some v → length link ≡ k.width

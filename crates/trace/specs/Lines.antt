@@ -1,6 +1,6 @@
 -- Lines (in the field: traces): a node fresh from its making, and calls on it one after another. Assumes nothing.
 use Rattle.std.specs.Prelude.{ℕ, ◌<◌, List, [], ◌∷◌, ◌++◌, Ok, Err}
-use Rattle.std.specs.List.{AllByRecursion as All}
+use Rattle.std.specs.List.{AllByRecursion}
 use Rattle.refusal.specs.Outcomes.{Outcome}
 use Rattle.kind.specs.Kind.{Meaning}
 use Rattle.program.specs.declared.program.Program.{Program}
@@ -59,7 +59,7 @@ pub record Possible (l : Line) : Type 0 where
   pub node : l.number < 65536
   pub program : (shown l.program).header.number < 4294967296
   pub inbox : Lawful l.inbox
-  pub messages : All OfBytes l.calls
+  pub messages : AllByRecursion OfBytes l.calls
 
 module _ {V : Type 0} (k : Meaning V) where
   -- what a call did; a refused one did nothing

@@ -1,6 +1,6 @@
 -- What is promised of lines: isolation, who is held, and that own trees pass. Assumes nothing.
 use Rattle.std.specs.Prelude.{◌≡◌, ℕ, ◌<◌, Bool, true, cond, ◌≢◌, List, [], ◌∷◌, ◌++◌, map, length, take, is_some, Some, None, Ok, Err, Option, ◌==◌}
-use Rattle.std.specs.List.{AllByRecursion as All}
+use Rattle.std.specs.List.{AllByRecursion}
 use Rattle.refusal.specs.Causes.{listed}
 use Rattle.refusal.specs.Outcomes.{Outcome}
 use Rattle.kind.specs.Kind.{Meaning, Lawful}
@@ -108,7 +108,7 @@ pub record HeldExactly {V : Type 0} (k : Meaning V) (l : Line) : Type 0 where
   pub only : (n : ℕ) (link m : List ℕ) → HeldWith k (end k l) n link m → Latest l.inbox.life n link m (events k l)
   pub always : (n : ℕ) (link m : List ℕ) → Latest l.inbox.life n link m (events k l) → HeldWith k (end k l) n link m
   -- no delivery leaves an item that a round would not count: inbox and round hold the same senders
-  pub counted : All (λ i. counts k (end k l) i ≡ true) (end k l).inbox.items
+  pub counted : AllByRecursion (λ i. counts k (end k l) i ≡ true) (end k l).inbox.items
   pub same_senders : senders (held_at k (end k l)) ≡ map sender_of (end k l).inbox.items
 
 abbrev pub LatestDeliveriesHeld : Type 0 → Type 0

@@ -1,6 +1,6 @@
 -- What a walk over a program in hand can rely on. Assumes nothing.
 use Rattle.std.proofs.Common.{◌≡◌, ℕ, zero, suc, ◌+◌, ◌-◌, ◌^◌, ◌<◌, ◌≤◌, List, [], ◌∷◌, map, length, get_or, replicate, Some, sym, ap, ◌∙◌, subst, arith}
-use Rattle.std.specs.List.{AllByRecursion as All}
+use Rattle.std.specs.List.{AllByRecursion}
 use Rattle.std.proofs.lemmas.List.{length-take}
 use Rattle.std.proofs.ByRecursion.{All-append, All-map, All-weaker}
 use Rattle.program.specs.declared.program.Program.{Program}
@@ -29,11 +29,11 @@ short p = let e = ap length (program_parts p).kept in let l = length-take p.leng
 abbrev Inside : ℕ → Function → Type 0
 Inside n f = f.start ≤ n
 
-free_inside : (n k : ℕ) → All (Inside n) (replicate k no_row)
+free_inside : (n k : ℕ) → AllByRecursion (Inside n) (replicate k no_row)
 free_inside n zero = tt
 free_inside n (suc k) = (omega arith, free_inside n k)
 
-at_or : (n : ℕ) (xs : List Function) (i : ℕ) → All (Inside n) xs → Inside n (get_or xs i no_row)
+at_or : (n : ℕ) (xs : List Function) (i : ℕ) → AllByRecursion (Inside n) xs → Inside n (get_or xs i no_row)
 at_or n [] i h = omega arith
 at_or n (x ∷ xs) zero h = h.0
 at_or n (x ∷ xs) (suc i) h = at_or n xs i h.1
@@ -44,18 +44,18 @@ placed p i =
     let n = length (shown p).block in
     let w = (shown p).shape.width in
     let fs = (shown p).functions in
-    let all : All (λ (f : Unfolded). Inside n (row w f)) fs =
+    let all : AllByRecursion (λ (f : Unfolded). Inside n (row w f)) fs =
     All-weaker (Kept p.shape.width (block_of p)) _ (λ f k. let e = ap length (program_parts p).kept in omega (arith, k.inside)) fs (found p).all in
     at_or n (table_of w fs) i (All-append (Inside n) (map (row w) fs) (replicate (32 - length fs) no_row) (All-map (Inside n) (row w) fs all) (free_inside n (32 - length fs)))
 
 abbrev Few : Function → Type 0
 Few f = f.parameters ≤ 8
 
-free_few : (k : ℕ) → All Few (replicate k no_row)
+free_few : (k : ℕ) → AllByRecursion Few (replicate k no_row)
 free_few zero = tt
 free_few (suc k) = (omega arith, free_few k)
 
-few_at : (xs : List Function) (i : ℕ) → All Few xs → Few (get_or xs i no_row)
+few_at : (xs : List Function) (i : ℕ) → AllByRecursion Few xs → Few (get_or xs i no_row)
 few_at [] i h = omega arith
 few_at (x ∷ xs) zero h = h.0
 few_at (x ∷ xs) (suc i) h = few_at xs i h.1
@@ -65,7 +65,7 @@ pub few_parameters : (p : Program) (i : ℕ) → (named (rows p) i).parameters �
 few_parameters p i =
     let w = (shown p).shape.width in
     let fs = (shown p).functions in
-    let all : All (λ (f : Unfolded). Few (row w f)) fs = All-weaker (Kept p.shape.width (block_of p)) _ (λ f k. k.few) fs (found p).all in
+    let all : AllByRecursion (λ (f : Unfolded). Few (row w f)) fs = All-weaker (Kept p.shape.width (block_of p)) _ (λ f k. k.few) fs (found p).all in
     few_at (table_of w fs) i (All-append Few (map (row w) fs) (replicate (32 - length fs) no_row) (All-map Few (row w) fs all) (free_few (32 - length fs)))
 
 pub known_in : (p : Program) (d at : ℕ) (st : Expression) (n s v : ℕ) → at ≤ length (shown p).block + 17 → 1 ≤ d → Some st ≡ expression_at (shown p).block at
