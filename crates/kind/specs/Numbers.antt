@@ -21,7 +21,7 @@ nearest z = record { value = limited z; range = limited_range z }
 abbrev pub non_zero : ℤ → Bool
 non_zero z = nat_lt 0 (unsigned_abs z)
 
--- truth is being non_zero
+-- truth is being non-zero
 abbrev pub truth : Number → Bool
 truth a = non_zero a.value
 

@@ -138,9 +138,9 @@ module _ {V : Type 0} (k : Meaning V) (g : Given V) where
         let q = p + places a in
         let x = work a env al p in
         let t = k.truth (mine x.value) in
-        let yes-part = work b env (narrowed g al q true) (q + 1) in
+        let yes_part = work b env (narrowed g al q true) (q + 1) in
         let no_part = work c env (narrowed g al q false) (q + 1 + places b) in
-        let y = cond t yes-part no_part in
+        let y = cond t yes_part no_part in
         record { value = y.value; records = x.records ++ (choice q t ∷ y.records) }
     work (call es b) env al p =
         let xs = work_all es env al p in

@@ -47,7 +47,7 @@ fn skip_called(program: &Program, e: Expression, depth: usize) -> usize
     }
 }
 
-/// The same of `count` expressions in a row.
+/// Where `count` expressions in a row end, and how many places they have, down to a depth.
 #[cycle(skip_skip_called_skip_parts)]
 pub fn skip_parts(program: &Program, count: usize, at: usize, depth: usize) -> (usize, usize)
     requires near { at ≤ length (shown program.now).block + 17 }
