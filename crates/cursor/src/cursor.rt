@@ -71,7 +71,7 @@ pub fn value_at<K: Kind>(tree: &[u8], from: usize, place: usize, number: u16) ->
     if !has_place(tree, at, place) {
         return None;
     }
-    match record_at(Body::Exchange, K::value_width(), tree, at) {
+    match record_at(Body::Exchange, K::WIDTH, tree, at) {
         Ok(record) => read_at::<K>(record, number as usize),
         Err(_) => None,
     }
@@ -85,7 +85,7 @@ pub fn choice_at<K: Kind>(tree: &[u8], from: usize, place: usize) -> Option<bool
     if !has_place(tree, at, place) {
         return None;
     }
-    match record_at(Body::Choice, K::value_width(), tree, at) {
+    match record_at(Body::Choice, K::WIDTH, tree, at) {
         Ok(record) => chosen(record),
         Err(_) => None,
     }

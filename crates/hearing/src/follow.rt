@@ -27,7 +27,7 @@ fn seek_sender<K: Kind>(x: &Inputs<'_>, j: usize, from: usize, place: usize) -> 
     requires { j < x.now.slots.now.count }
     ensures { (rs : List (Rec (K.Value))) (low : ℕ) → Readable K.Kind.meaning (tree_of K.Kind.meaning x.now j) rs → Stands K.Kind.meaning (tree_of K.Kind.meaning x.now j) rs low from → low ≤ place → Stands K.Kind.meaning (tree_of K.Kind.meaning x.now j) rs place result }
 {
-    let tree = tree(x.slots, K::value_width(), x.bytes, j);
+    let tree = tree(x.slots, K::WIDTH, x.bytes, j);
     seek::<K>(tree, from, place)
 }
 
@@ -69,7 +69,7 @@ fn stays<K: Kind>(
     if !aligned {
         return false;
     }
-    let tree = tree(x.slots, K::value_width(), x.bytes, j);
+    let tree = tree(x.slots, K::WIDTH, x.bytes, j);
     is_choice(choice_at::<K>(tree, from, place), first)
 }
 

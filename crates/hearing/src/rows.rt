@@ -45,7 +45,7 @@ fn received_cell<K: Kind>(
         );
     }
     let j = i - 2;
-    let tree = tree(x.slots, K::value_width(), x.bytes, j);
+    let tree = tree(x.slots, K::WIDTH, x.bytes, j);
     let said = value_at::<K>(tree, cursors.senders[j], place, x.node);
     said_or(aligned[j], said, initial)
 }
@@ -77,13 +77,13 @@ fn linked_cell<K: Kind>(x: &Inputs<'_>, i: usize) -> K::Value
     ensures { LinkedCell K.Kind.meaning x.now i result }
 {
     if i == 0 {
-        return K::unknown_value();
+        return K::UNKNOWN;
     }
     if i == 1 {
-        return K::own_value();
+        return K::OWN;
     }
-    let link = link_bytes(x.slots, K::value_width(), x.bytes, i - 2);
-    K::read(link).unwrap_or(K::unknown_value())
+    let link = link_bytes(x.slots, K::WIDTH, x.bytes, i - 2);
+    K::read(link).unwrap_or(K::UNKNOWN)
 }
 
 /// Lays the row of the links. An inner function: the row is there.
@@ -101,15 +101,15 @@ pub fn link_row<K: Kind>(x: &Inputs<'_>, rows: &mut RowStack<'_, K::Value>, base
 pub fn value_in<K: Kind>(bytes: &[u8], at: usize) -> K::Value
     ensures { result ≡ value_in K.Kind.meaning bytes.now at }
 {
-    let width = K::value_width();
+    let width = K::WIDTH;
     let start = at.min(bytes.len());
     let size = width.min(bytes.len() - start);
-    K::read(&bytes[start..start + size]).unwrap_or(K::own_value())
+    K::read(&bytes[start..start + size]).unwrap_or(K::OWN)
 }
 
 /// The reading of a sensor, as it stands in the readings; OWN where there is none.
 pub fn reading<K: Kind>(readings: &[u8], n: u8) -> K::Value
     ensures { result ≡ reading_at K.Kind.meaning readings.now n }
 {
-    value_in::<K>(readings, n as usize * K::value_width())
+    value_in::<K>(readings, n as usize * K::WIDTH)
 }

@@ -29,7 +29,7 @@ fn counts<K: Kind>(program: &Program, node: u16, sender: u16, item: &[u8]) -> bo
     requires suits { suits K.Kind.meaning (shown program.now) ≡ true }
     ensures { result ≡ is_held K.Kind.meaning program.now node sender item.now }
 {
-    let width = K::value_width();
+    let width = K::WIDTH;
     if item.len() < width {
         return false;
     }

@@ -1,10 +1,12 @@
 -- The laws of numbers.
-use Rattle.std.specs.Prelude.{◌≡◌, ℕ, suc, ◌-◌, ◌^◌, ◌<◌, ◌≤◌, true, false, cond, not, ltb, ℤ, pos, negsuc, ◌-ℤ◌, Some, None, ◌≢◌, nat_lt, unsigned_abs, refl}
-use Rattle.std.proofs.Common.{sym, ap, ◌∙◌, arith}
+use Rattle.std.specs.Prelude.{◌≡◌, ℕ, suc, ◌-◌, ◌^◌, ◌<◌, ◌≤◌, true, false, cond, not, ltb, ℤ, pos, negsuc, ◌-ℤ◌, Some, None, ◌≢◌, nat_lt, unsigned_abs, int_lt, refl}
+use Rattle.std.proofs.Common.{Less, Greater, Equal, sym, ap, ◌∙◌, arith}
 use mathlib.Core.HLevel.{is_prop→PathP}
 use Rattle.std.proofs.Math.Bridge.{le_prop}
 use mir.Val.{to_z, of_z, sel}
 use Rattle.std.specs.Int.{int_min, int_max, w32}
+use Rattle.std.specs.Ordering.{int_cmp, int_eq, is_lt}
+use Rattle.std.specs.Cmp.{signed_Decides}
 use Rattle.std.proofs.lemmas.Int.{ints, of_z-to_z}
 use Rattle.std.proofs.lemmas.Bool.{cond_both, cond-true, cond-false, ltb-true, ltb-false, lt-ltb}
 use Rattle.kind.specs.declared.number.Number.{Number}
@@ -101,3 +103,11 @@ numbers_lawful = record {
   alike = λ a b e. same_number a b (no_difference a.value b.value e);
   itself = λ a. difference_none a.value;
 }
+
+-- numbers are equal exactly when their difference is 0
+pub same_by_difference : (x y : ℤ) → int_eq x y ≡ not (non_zero (x -ℤ y))
+same_by_difference x y = grind (arith, ints, signed_Decides x y)
+
+-- a number is below another exactly when the order says so
+pub below_by_order : (x y : ℤ) → is_lt (int_cmp x y) ≡ int_lt x y
+below_by_order x y = elim (int_lt x y) as (λ t. is_lt (cond t Less (cond (int_lt y x) Greater Equal)) ≡ t) [ true ↦ refl | false ↦ elim (int_lt y x) as (λ t. is_lt (cond t Greater Equal) ≡ false) [ true ↦ refl | false ↦ refl ] ]

@@ -1,4 +1,4 @@
-ghost use Rattle.std.specs.Prelude.{◌≡◌, ◌≤◌, ◌++◌, length, drop};
+ghost use Rattle.std.specs.Prelude.{◌≡◌, ◌≤◌, ℕ, ◌++◌, length, drop};
 ghost use Rattle.kind.specs.Kind.{Meaning, Lawful};
 
 /// A kind of value: what a program computes with.
@@ -6,51 +6,38 @@ ghost use Rattle.kind.specs.Kind.{Meaning, Lawful};
 /// `meaning` says what each function answers, as a function of the operands alone, and `lawful` what every kind shows of it.
 pub trait Kind {
     /// The values of the kind.
-    type Value: Copy;
+    type Value: Copy + Eq;
+
+    ghost meaning: { Meaning Self.Value };
 
     /// The kind's number, as a program names it.
     const NUMBER: u8;
 
+    ghost NUMBER: { ℕ };
+
     /// How many bytes a written value has: 1 to 16.
     const WIDTH: usize;
+
+    ghost WIDTH: { ℕ };
+
+    /// How many operators there are: they are numbered from 0.
+    const OPERATORS: u8;
+
+    ghost OPERATORS: { ℕ };
 
     /// What the link of a node to itself is.
     const OWN: Self::Value;
 
+    ghost OWN: { Self.Value };
+
     /// What the link of a node to one that it does not hold is.
     const UNKNOWN: Self::Value;
 
-    ghost meaning: { Meaning Self.Value };
-
-    /// `NUMBER`. A constant has no contract, so generic code takes the constants from functions.
-    fn kind_number() -> u8
-        ensures { result ≡ meaning.number };
-
-    /// `WIDTH`.
-    fn value_width() -> usize
-        ensures is { result ≡ meaning.width }
-        ensures some { 1 ≤ result }
-        ensures most { result ≤ 16 };
-
-    /// How many operators there are: they are numbered from 0.
-    fn operator_count() -> u8
-        ensures { result ≡ meaning.operators };
-
-    /// `OWN`.
-    fn own_value() -> Self::Value
-        ensures { result ≡ meaning.own };
-
-    /// `UNKNOWN`.
-    fn unknown_value() -> Self::Value
-        ensures { result ≡ meaning.unknown };
+    ghost UNKNOWN: { Self.Value };
 
     /// Whether a value counts as yes.
     fn truth(v: Self::Value) -> bool
         ensures { result ≡ meaning.truth v };
-
-    /// Whether two values are the same value.
-    fn same(a: Self::Value, b: Self::Value) -> bool
-        ensures { result ≡ meaning.same a b };
 
     /// The operator of that number on two values. Every number has an answer; a program names only those below `operator_count`.
     fn apply(operator: u8, a: Self::Value, b: Self::Value) -> Self::Value
@@ -69,4 +56,16 @@ pub trait Kind {
         ensures { out.new ≡ meaning.written v ++ drop meaning.width out.old };
 
     ghost lawful: { Lawful meaning };
+
+    ghost number_is: { NUMBER ≡ meaning.number };
+
+    ghost width_is: { WIDTH ≡ meaning.width };
+
+    ghost operators_is: { OPERATORS ≡ meaning.operators };
+
+    ghost own_is: { OWN ≡ meaning.own };
+
+    ghost same_is: { (a b : Self.Value) → Self.Value.eq a b ≡ meaning.same a b };
+
+    ghost unknown_is: { UNKNOWN ≡ meaning.unknown };
 }

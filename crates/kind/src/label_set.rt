@@ -1,7 +1,7 @@
 ghost use Rattle.std.specs.Prelude.{◌≡◌, ◌^◌, ◌<◌};
 
 /// A set of labels from 0 to 59: label i is bit i from the lowest.
-#[derive(Clone, Copy)]
+#[derive(Clone, Copy, PartialEq, Eq, Debug)]
 pub struct LabelSet {
     bits: u64,
     ghost sixty: { bits < 2 ^ 60 },

@@ -1,3 +1,4 @@
+ghost use Rattle.std.specs.Prelude.{refl};
 ghost use Rattle.kind.specs.LabelSets.{label_sets as meaning_of_label_sets};
 ghost use Rattle.kind.specs.LabelSetLaws.{label_sets_lawful};
 
@@ -19,36 +20,36 @@ impl Kind for LabelSets {
 
     const UNKNOWN: LabelSet = LabelSet::EMPTY;
 
+    const OPERATORS: u8 = 5;
+
+    ghost NUMBER = { 2 };
+
+    ghost WIDTH = { 8 };
+
+    ghost OPERATORS = { 5 };
+
+    ghost OWN = { meaning_of_label_sets.own };
+
+    ghost UNKNOWN = { meaning_of_label_sets.unknown };
+
+    ghost number_is = { refl };
+
+    ghost width_is = { refl };
+
+    ghost operators_is = { refl };
+
+    ghost own_is = { refl };
+
+    ghost same_is = { λ a b. refl };
+
+    ghost unknown_is = { refl };
+
     ghost meaning = { meaning_of_label_sets };
 
     ghost lawful = { label_sets_lawful };
 
-    fn kind_number() -> u8 {
-        Self::NUMBER
-    }
-
-    fn value_width() -> usize {
-        Self::WIDTH
-    }
-
-    fn operator_count() -> u8 {
-        5
-    }
-
-    fn own_value() -> LabelSet {
-        Self::OWN
-    }
-
-    fn unknown_value() -> LabelSet {
-        Self::UNKNOWN
-    }
-
     fn truth(v: LabelSet) -> bool {
         v.truth()
-    }
-
-    fn same(a: LabelSet, b: LabelSet) -> bool {
-        a.same(b)
     }
 
     fn apply(operator: u8, a: LabelSet, b: LabelSet) -> LabelSet {
@@ -56,9 +57,9 @@ impl Kind for LabelSets {
             0 => a.union(b),
             1 => a.intersection(b),
             2 => a.without(b),
-            3 => LabelSet::from_bool(a.same(b)),
-            4 => LabelSet::from_bool(a.within(b)),
-            _ => LabelSet::from_bool(false),
+            3 => LabelSet::from(a == b),
+            4 => LabelSet::from(a.within(b)),
+            _ => LabelSet::from(false),
         }
     }
 

@@ -4,7 +4,7 @@ ghost use Rattle.std.specs.Prelude.{◌≡◌, ◌^◌, ◌<◌, unsigned_abs};
 const LIMIT: i32 = 2147483647;
 
 /// A whole number from −2,147,483,647 to 2,147,483,647.
-#[derive(Clone, Copy)]
+#[derive(Clone, Copy, PartialEq, Eq, PartialOrd, Ord, Debug)]
 pub struct Number {
     value: i32,
     ghost range: { unsigned_abs value < 2 ^ 31 },

@@ -1,5 +1,6 @@
+ghost use Rattle.std.specs.Prelude.{refl};
 ghost use Rattle.kind.specs.Numbers.{numbers as meaning_of_numbers};
-ghost use Rattle.kind.specs.NumberLaws.{numbers_lawful};
+ghost use Rattle.kind.specs.NumberLaws.{numbers_lawful, same_by_difference};
 
 use crate::kind::Kind;
 use crate::number::Number;
@@ -19,48 +20,48 @@ impl Kind for Numbers {
 
     const UNKNOWN: Number = Number::LARGEST;
 
+    const OPERATORS: u8 = 10;
+
+    ghost NUMBER = { 1 };
+
+    ghost WIDTH = { 4 };
+
+    ghost OPERATORS = { 10 };
+
+    ghost OWN = { meaning_of_numbers.own };
+
+    ghost UNKNOWN = { meaning_of_numbers.unknown };
+
+    ghost number_is = { refl };
+
+    ghost width_is = { refl };
+
+    ghost operators_is = { refl };
+
+    ghost own_is = { refl };
+
+    ghost same_is = { λ a b. same_by_difference a.value b.value };
+
+    ghost unknown_is = { refl };
+
     ghost meaning = { meaning_of_numbers };
 
     ghost lawful = { numbers_lawful };
 
-    fn kind_number() -> u8 {
-        Self::NUMBER
-    }
-
-    fn value_width() -> usize {
-        Self::WIDTH
-    }
-
-    fn operator_count() -> u8 {
-        10
-    }
-
-    fn own_value() -> Number {
-        Self::OWN
-    }
-
-    fn unknown_value() -> Number {
-        Self::UNKNOWN
-    }
-
     fn truth(v: Number) -> bool {
         v.truth()
-    }
-
-    fn same(a: Number, b: Number) -> bool {
-        a.same(b)
     }
 
     fn apply(operator: u8, a: Number, b: Number) -> Number {
         match operator {
             0 => a.add(b),
             1 => a.subtract(b),
-            2 => a.smaller(b),
-            3 => a.larger(b),
-            4 => Number::from_bool(a.less(b)),
-            5 => Number::from_bool(a.same(b)),
-            6 => Number::from_bool(a.both(b)),
-            7 => Number::from_bool(a.either(b)),
+            2 => a.min(b),
+            3 => a.max(b),
+            4 => Number::from(a < b),
+            5 => Number::from(a == b),
+            6 => Number::from(a.both(b)),
+            7 => Number::from(a.either(b)),
             8 => a.times(b),
             9 => a.over(b),
             _ => Number::nearest(0),

@@ -10,7 +10,7 @@ pub fn write_at<K: Kind>(v: K::Value, out: &mut [u8], at: usize) -> usize
     ensures end { result ≡ at + K.Kind.meaning.width }
     ensures bytes { out.new ≡ take at out.old ++ (K.Kind.meaning.written v ++ drop result out.old) }
 {
-    let end = at + K::value_width();
+    let end = at + K::WIDTH;
     K::write(v, &mut out[at..end]);
     end
 }

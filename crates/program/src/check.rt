@@ -19,9 +19,9 @@ fn shape<K: Kind>() -> KindShape
     ensures narrow { result.width ≤ 16 }
 {
     KindShape {
-        number: K::kind_number(),
-        width: K::value_width() as u8,
-        operators: K::operator_count(),
+        number: K::NUMBER,
+        width: K::WIDTH as u8,
+        operators: K::OPERATORS,
     }
 }
 
@@ -63,7 +63,7 @@ pub fn check<K: Kind>(bytes: &[u8]) -> Result<Program, Refusal>
 pub fn suits<K: Kind>(program: &Program) -> bool
     ensures { result ≡ suits_kind K.Kind.meaning (shown program.now) }
 {
-    program.kind() == K::kind_number()
-        && program.width() == K::value_width()
-        && program.operators() == K::operator_count()
+    program.kind() == K::NUMBER
+        && program.width() == K::WIDTH
+        && program.operators() == K::OPERATORS
 }

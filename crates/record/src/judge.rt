@@ -19,7 +19,7 @@ fn value<K: Kind>(bytes: &[u8], at: usize, base: usize) -> Result<K::Value, Refu
     requires short { base + length bytes.now < 2 ^ 32 }
     ensures { result ≡ allowed (base + at) (K.Kind.meaning.read (part bytes.now at K.Kind.meaning.width)) }
 {
-    match K::read(&bytes[at..at + K::value_width()]) {
+    match K::read(&bytes[at..at + K::WIDTH]) {
         Some(v) => Ok(v),
         None => Err(Refusal {
             cause: Cause::ValueRefused,
@@ -50,14 +50,14 @@ fn check_entries<K: Kind>(
                 position: base + at,
             });
         }
-        if K::same(v, default) {
+        if v == default {
             return Err(Refusal {
                 cause: Cause::EntryRefused,
                 position: base + (at + 2),
             });
         }
         low = number + 1;
-        at += 2 + K::value_width();
+        at += 2 + K::WIDTH;
     }
     Ok(())
 }
@@ -112,7 +112,7 @@ pub fn judge<K: Kind>(found: Record<'_>, due: usize) -> Result<bool, Refusal>
                     position: offset + 4,
                 });
             };
-            check_entries::<K>(v, offset + 5 + K::value_width(), entries, count)?;
+            check_entries::<K>(v, offset + 5 + K::WIDTH, entries, count)?;
             Ok(false)
         }
     }
@@ -130,7 +130,7 @@ pub fn due_record<K: Kind>(
     ensures is { result ≡ mapped (λ x. (is_first x.0, x.1)) (record_at K.Kind.meaning body due message.now at) }
     ensures ends { IfOk result (λ x. (at < x.1) × (x.1 ≤ length message.now)) }
 {
-    let record = record_at(body, K::value_width(), message, at)?;
+    let record = record_at(body, K::WIDTH, message, at)?;
     let first = judge::<K>(record, due)?;
     Ok((first, at + 2 + pair(message, at)))
 }

@@ -42,6 +42,6 @@ pub fn read_at<K: Kind>(found: Record<'_>, number: usize) -> Option<K::Value>
             count,
             entries,
             ..
-        } => K::read(find_entry(K::value_width(), number, default, entries, count)),
+        } => K::read(find_entry(K::WIDTH, number, default, entries, count)),
     }
 }

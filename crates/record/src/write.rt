@@ -41,7 +41,7 @@ pub fn put_head<K: Kind>(output: &mut Output<'_>, place: usize, default: K::Valu
     ensures named { output.new.bytes.ghost_name ≡ output.old.bytes.ghost_name }
     ensures grown { Grown output.old.bytes.now output.old.len output.new.bytes.now output.new.len (written_head K.Kind.meaning place default count) }
 {
-    let width = K::value_width();
+    let width = K::WIDTH;
     output.pair(3 + width + count * (2 + width));
     output.pair(place);
     put_value::<K>(output, default);

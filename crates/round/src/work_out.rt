@@ -39,7 +39,7 @@ pub const WORKING_BYTES: usize = 36864;
 fn check_readings<K: Kind>(sensors: u8, readings: &[u8]) -> Result<(), Refusal>
     ensures { result ≡ mapped (λ _. tt) (readings_in K.Kind.meaning sensors readings.now) }
 {
-    let width = K::value_width();
+    let width = K::WIDTH;
     if readings.len() != sensors as usize * width {
         return Err(Refusal {
             cause: Cause::ReadingsRefused,

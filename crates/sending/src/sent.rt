@@ -37,7 +37,7 @@ fn count_other<K: Kind>(
 {
     let mut count = 0;
     for i in 0..cells {
-        if !K::same(rows.cell(first + i), default) {
+        if rows.cell(first + i) != default {
             count += 1;
         }
     }
@@ -50,7 +50,7 @@ fn put_other<K: Kind>(output: &mut Output<'_>, number: u16, v: K::Value, default
     ensures named { output.new.bytes.ghost_name ≡ output.old.bytes.ghost_name }
     ensures grown { Grown output.old.bytes.now output.old.len output.new.bytes.now output.new.len (written_entries K.Kind.meaning (kept_one K.Kind.meaning default number v)) }
 {
-    if !K::same(v, default) {
+    if v != default {
         put_entry::<K>(output, number as usize, v);
     }
 }

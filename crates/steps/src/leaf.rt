@@ -30,7 +30,7 @@ pub fn leaf<K: Kind>(
         Expression::Literal(from) => rows.fill(base, value_in::<K>(x.program.block(), from)),
         Expression::Variable(n) => match frame.row(n as usize) {
             Some(row) => rows.copy(row, base),
-            None => rows.fill(base, K::own_value()),
+            None => rows.fill(base, K::OWN),
         },
         Expression::Sensor(n) => rows.fill(base, reading::<K>(x.readings, n)),
         Expression::Link => link_row::<K>(x, rows, base),

@@ -3,6 +3,15 @@ ghost use Rattle.kind.specs.LabelSets as sets;
 
 use super::LabelSet;
 
+/// Label 0 alone for yes, the empty set for no.
+impl From<bool> for LabelSet {
+    ghost from_gives = { λ yes r. r ≡ sets.from_bool yes };
+
+    fn from(yes: bool) -> LabelSet {
+        labelled(yes as u64)
+    }
+}
+
 impl LabelSet {
     /// Whether the label is in the set.
     ///
@@ -14,25 +23,11 @@ impl LabelSet {
         label < 60 && (self.bits >> label) % 2 == 1
     }
 
-    /// Label 0 alone for yes, the empty set for no.
-    pub(crate) fn from_bool(yes: bool) -> LabelSet
-        ensures { result ≡ sets.from_bool yes }
-    {
-        labelled(yes as u64)
-    }
-
     /// Whether there is any label.
     pub(crate) fn truth(self) -> bool
         ensures { result ≡ sets.truth self }
     {
-        !self.same(LabelSet::EMPTY)
-    }
-
-    /// Whether two sets have the same labels.
-    pub(crate) fn same(self, other: LabelSet) -> bool
-        ensures { result ≡ sets.same self other }
-    {
-        self.bits == other.bits
+        self != LabelSet::EMPTY
     }
 
     /// Whether the second set has all labels of the first.

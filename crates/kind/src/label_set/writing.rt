@@ -29,9 +29,7 @@ impl LabelSet {
     pub(crate) fn from_bytes(bytes: &[u8]) -> Option<LabelSet>
         ensures { result ≡ sets.read bytes.now }
     {
-        let [a, b, c, d, e, f, g, h] = bytes else {
-            return None;
-        };
-        LabelSet::from_bits(u64::from_be_bytes([*a, *b, *c, *d, *e, *f, *g, *h]))
+        let bytes = bytes.try_into().ok()?;
+        LabelSet::from_bits(u64::from_be_bytes(bytes))
     }
 }

@@ -3,6 +3,15 @@ ghost use Rattle.kind.specs.Numbers as numbers;
 
 use super::{LIMIT, Number};
 
+/// 1 for yes, 0 for no.
+impl From<bool> for Number {
+    ghost from_gives = { λ yes r. r ≡ numbers.from_bool yes };
+
+    fn from(yes: bool) -> Number {
+        Number::nearest(yes as i64)
+    }
+}
+
 impl Number {
     /// The number nearest to `z`: `z` itself, within the range.
     pub fn nearest(z: i64) -> Number
@@ -13,32 +22,11 @@ impl Number {
         }
     }
 
-    /// 1 for yes, 0 for no.
-    pub(crate) fn from_bool(yes: bool) -> Number
-        ensures { result ≡ numbers.from_bool yes }
-    {
-        Number::nearest(yes as i64)
-    }
-
     /// Whether the number is not 0.
     pub(crate) fn truth(self) -> bool
         ensures { result ≡ numbers.truth self }
     {
-        !self.same(Number::ZERO)
-    }
-
-    /// Whether two numbers are the same.
-    pub(crate) fn same(self, other: Number) -> bool
-        ensures { result ≡ numbers.same self other }
-    {
-        self.value == other.value
-    }
-
-    /// Whether the first number is below the second.
-    pub(crate) fn less(self, other: Number) -> bool
-        ensures { result ≡ numbers.less self other }
-    {
-        self.value < other.value
+        self != Number::ZERO
     }
 
     /// Whether both numbers are true.
@@ -67,28 +55,6 @@ impl Number {
         ensures { result ≡ numbers.subtract self other }
     {
         Number::nearest(self.value as i64 - other.value as i64)
-    }
-
-    /// The smaller of two numbers.
-    pub(crate) fn smaller(self, other: Number) -> Number
-        ensures { result ≡ numbers.smaller self other }
-    {
-        if other.value < self.value {
-            other
-        } else {
-            self
-        }
-    }
-
-    /// The larger of two numbers.
-    pub(crate) fn larger(self, other: Number) -> Number
-        ensures { result ≡ numbers.larger self other }
-    {
-        if self.value < other.value {
-            other
-        } else {
-            self
-        }
     }
 
     /// The product.

@@ -15,10 +15,8 @@ impl Number {
     pub(crate) fn from_bytes(bytes: &[u8]) -> Option<Number>
         ensures { result ≡ numbers.read bytes.now }
     {
-        let [a, b, c, d] = bytes else {
-            return None;
-        };
-        from_bits(u32::from_be_bytes([*a, *b, *c, *d]))
+        let bytes = bytes.try_into().ok()?;
+        from_bits(u32::from_be_bytes(bytes))
     }
 }
 
