@@ -2,7 +2,8 @@
 use Rattle.std.proofs.Common.{◌≡◌, ℕ, zero, suc, ◌+◌, ◌-◌, ◌/◌, ◌%◌, ◌≤◌, Bool, true, false, cond, List, [], ◌∷◌, ◌++◌, length, take, drop, set, sym, refl, ap, ◌∙◌, subst, append_assoc, append-nil, arith, length-append, length-drop, length-take, drop-drop, take_at, take-add, drop_at}
 use mir.Val.{bool_byte}
 use Rattle.record.specs.Fields.{part, pair_of, quad_of}
-use Rattle.record.specs.Growth.{Grown}
+use Rattle.record.specs.declared.output.Output.{Output}
+use Rattle.record.specs.Growth.{Grown, Puts}
 
 pub grown_none : (c : List ℕ) (u : ℕ) → Grown c u c u []
 grown_none c u = record { room = refl; top_is = omega arith; front = sym (append-nil (take u c)); tail = refl }
@@ -21,6 +22,13 @@ grown_after {c₀} {c₁} {c₂} {u₀} {u₁} {u₂} {xs} {ys} a b =
 
 pub grown_is : {c₀ c₁ : List ℕ} {u₀ u₁ : ℕ} {xs ys : List ℕ} → xs ≡ ys → Grown c₀ u₀ c₁ u₁ xs → Grown c₀ u₀ c₁ u₁ ys
 grown_is {c₀} {c₁} {u₀} {u₁} e h = subst (Grown c₀ u₀ c₁ u₁) e h
+
+-- the same of outputs
+pub puts_after : {o m n : Output} {xs ys : List ℕ} → Puts o m xs → Puts m n ys → Puts o n (xs ++ ys)
+puts_after a b = record { lender = b.lender ∙ a.lender; grown = grown_after a.grown b.grown }
+
+pub puts_is : {o n : Output} {xs ys : List ℕ} → xs ≡ ys → Puts o n xs → Puts o n ys
+puts_is {o} {n} e h = subst (Puts o n) e h
 
 pub drop_set : (l : List ℕ) (i v : ℕ) → drop (i + 1) (set l i v) ≡ drop (i + 1) l
 drop_set l i v = subst (λ j. drop j (set l i v) ≡ drop j l) (let e : suc i ≡ i + 1 = omega arith in e) (go l i)

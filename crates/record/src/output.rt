@@ -1,6 +1,6 @@
 ghost use Rattle.std.specs.Prelude.{◌≡◌, ◌+◌, ◌/◌, ◌%◌, ◌<◌, ◌≤◌, [], ◌∷◌, length};
 ghost use Rattle.record.specs.Fields.{pair_of};
-ghost use Rattle.record.specs.Growth.{Grown};
+ghost use Rattle.record.specs.Growth.{Puts};
 
 /// An output, of which the first `len` bytes are written.
 #[derive(Drop)]
@@ -13,8 +13,7 @@ impl<'a> Output<'a> {
     /// Puts a byte behind what is written. An inner function: the caller knows that there is room.
     pub fn put(&mut self, v: u8)
         requires { self.old.len < length self.old.bytes.now }
-        ensures named { self.new.bytes.ghost_name ≡ self.old.bytes.ghost_name }
-        ensures grown { Grown self.old.bytes.now self.old.len self.new.bytes.now self.new.len (v ∷ []) }
+        ensures { Puts self.old self.new (v ∷ []) }
     {
         self.bytes[self.len] = v;
         self.len += 1;
@@ -24,8 +23,7 @@ impl<'a> Output<'a> {
     pub fn pair(&mut self, n: usize)
         requires room { self.old.len + 2 ≤ length self.old.bytes.now }
         requires small { n < 65536 }
-        ensures named { self.new.bytes.ghost_name ≡ self.old.bytes.ghost_name }
-        ensures grown { Grown self.old.bytes.now self.old.len self.new.bytes.now self.new.len (pair_of n) }
+        ensures { Puts self.old self.new (pair_of n) }
     {
         self.put((n / 256) as u8);
         self.put((n % 256) as u8);

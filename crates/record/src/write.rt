@@ -1,6 +1,6 @@
 ghost use Rattle.std.specs.Prelude.{◌≡◌, ◌+◌, ◌-◌, ◌<◌, ◌≤◌, List, ◌++◌, length, take, drop};
 ghost use Rattle.record.specs.Fields.{part};
-ghost use Rattle.record.specs.Growth.{Grown};
+ghost use Rattle.record.specs.Growth.{Puts};
 ghost use Rattle.record.specs.Headers.{header_length, most_bytes, written_header};
 ghost use Rattle.record.specs.Shapes.{most_entries};
 ghost use Rattle.record.specs.Trees.{Rec, choice};
@@ -14,8 +14,7 @@ use kind::output::write_at;
 /// Puts a value behind what is written. An inner function: the caller knows that there is room, as for those below.
 pub fn put_value<K: Kind>(output: &mut Output<'_>, v: K::Value)
     requires { output.old.len + K.Kind.meaning.width ≤ length output.old.bytes.now }
-    ensures named { output.new.bytes.ghost_name ≡ output.old.bytes.ghost_name }
-    ensures grown { Grown output.old.bytes.now output.old.len output.new.bytes.now output.new.len (K.Kind.meaning.written v) }
+    ensures { Puts output.old output.new (K.Kind.meaning.written v) }
 {
     let start = output.len;
     output.len = write_at::<K>(v, output.bytes, start);
@@ -25,8 +24,7 @@ pub fn put_value<K: Kind>(output: &mut Output<'_>, v: K::Value)
 pub fn put_choice<K: Kind>(output: &mut Output<'_>, place: usize, first: bool)
     requires room { output.old.len + 5 ≤ length output.old.bytes.now }
     requires small { place < 65536 }
-    ensures named { output.new.bytes.ghost_name ≡ output.old.bytes.ghost_name }
-    ensures grown { Grown output.old.bytes.now output.old.len output.new.bytes.now output.new.len (written_record K.Kind.meaning (choice place first)) }
+    ensures { Puts output.old output.new (written_record K.Kind.meaning (choice place first)) }
 {
     output.pair(3);
     output.pair(place);
@@ -38,8 +36,7 @@ pub fn put_head<K: Kind>(output: &mut Output<'_>, place: usize, default: K::Valu
     requires room { output.old.len + (5 + K.Kind.meaning.width) ≤ length output.old.bytes.now }
     requires small { place < 65536 }
     requires few { count ≤ most_entries }
-    ensures named { output.new.bytes.ghost_name ≡ output.old.bytes.ghost_name }
-    ensures grown { Grown output.old.bytes.now output.old.len output.new.bytes.now output.new.len (written_head K.Kind.meaning place default count) }
+    ensures { Puts output.old output.new (written_head K.Kind.meaning place default count) }
 {
     let width = K::WIDTH;
     output.pair(3 + width + count * (2 + width));
@@ -52,8 +49,7 @@ pub fn put_head<K: Kind>(output: &mut Output<'_>, place: usize, default: K::Valu
 pub fn put_entry<K: Kind>(output: &mut Output<'_>, number: usize, v: K::Value)
     requires room { output.old.len + (2 + K.Kind.meaning.width) ≤ length output.old.bytes.now }
     requires small { number < 65536 }
-    ensures named { output.new.bytes.ghost_name ≡ output.old.bytes.ghost_name }
-    ensures grown { Grown output.old.bytes.now output.old.len output.new.bytes.now output.new.len (written_entry K.Kind.meaning number v) }
+    ensures { Puts output.old output.new (written_entry K.Kind.meaning number v) }
 {
     output.pair(number);
     put_value::<K>(output, v);
@@ -65,7 +61,7 @@ pub fn put_header<K: Kind>(output: &mut Output<'_>, program: u32, sender: u16)
     requires long { header_length ≤ output.old.len }
     requires short { output.old.len ≤ most_bytes }
     requires room { output.old.len ≤ length output.old.bytes.now }
-    ensures named { output.new.bytes.ghost_name ≡ output.old.bytes.ghost_name }
+    ensures lender { output.new.bytes.ghost_name ≡ output.old.bytes.ghost_name }
     ensures same { output.new.len ≡ output.old.len }
     ensures bytes { output.new.bytes.now ≡ written_header program sender (output.old.len - header_length) ++ drop header_length output.old.bytes.now }
     ensures tree { (rs : List (Rec (K.Value))) → part output.old.bytes.now header_length (output.old.len - header_length) ≡ written_records K.Kind.meaning rs → take output.new.len output.new.bytes.now ≡ written_tree K.Kind.meaning program (record { sender = sender; records = rs }) }

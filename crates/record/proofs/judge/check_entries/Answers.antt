@@ -32,17 +32,17 @@ returns-then-number-low g c =
     let f = refused_number k c.args.default c.args.base c.args.entries.now c.args.count c.loop.counter c.loop.low c.loop.at c.loop-test.true _ (sym c.in_ok-v.ensures) l in
     sym (c.loop.invariant.2 ∙ f)
 
-pub overflow_add-result-then-same : goal.overflow_add-result-then-same
-overflow_add-result-then-same g c = let h = behind_one _ _ _ _ _ c.loop-test.true c.loop.invariant.0 in search rules
+pub overflow_add-result-then-eq : goal.overflow_add-result-then-eq
+overflow_add-result-then-eq g c = let h = behind_one _ _ _ _ _ c.loop-test.true c.loop.invariant.0 in search rules
 
-pub overflow_add-result-then-same-2 : goal.overflow_add-result-then-same-2
-overflow_add-result-then-same-2 g c = let h = behind_one _ _ _ _ _ c.loop-test.true c.loop.invariant.0 in search rules
+pub overflow_add-result-then-eq-2 : goal.overflow_add-result-then-eq-2
+overflow_add-result-then-eq-2 g c = let h = behind_one _ _ _ _ _ c.loop-test.true c.loop.invariant.0 in search rules
 
-pub returns-then-same : goal.returns-then-same
-returns-then-same g c =
+pub returns-then-eq : goal.returns-then-eq
+returns-then-eq g c =
     let k = g.K.Kind.meaning in
     let l = le-leb c.loop.low (pair_at c.args.entries.now c.loop.at) (omega (arith, c.if-number-low.false, c.pair-number.ensures.is)) in
-    let f = refused_same k c.args.default c.args.base c.args.entries.now c.args.count c.loop.counter c.loop.low c.loop.at c.loop-test.true _ (sym c.in_ok-v.ensures) l (sym c.if-same.ensures) in
+    let f = refused_same k c.args.default c.args.base c.args.entries.now c.args.count c.loop.counter c.loop.low c.loop.at c.loop-test.true _ (sym c.in_ok-v.ensures) l (sym (g.met.K.Kind.same_is _ _) ∙ sym c.if-eq.ensures) in
     sym (c.loop.invariant.2 ∙ f)
 
 pub overflow_add-at-in-loop-2 : goal.overflow_add-at-in-loop-2
@@ -52,12 +52,12 @@ pub loop-preserved : goal.loop-preserved
 loop-preserved g c =
     let k = g.K.Kind.meaning in
     let bs = c.args.entries.now in
-    let w = c.value_width.ensures.is in
+    let w = c.WIDTH.ensures ∙ g.met.K.Kind.width_is in
     let n = c.pair-number.ensures.is in
     let small = c.pair-number.ensures.small in
     let l = le-leb c.loop.low (pair_at bs c.loop.at) (omega (arith, c.if-number-low.false)) in
     let b = behind_next k.width c.args.count c.loop.counter c.loop.at c.loop-test.true in
-    let f = passed k c.args.default c.args.base bs c.args.count c.loop.counter c.loop.low c.loop.at c.loop-test.true _ (sym c.in_ok-v.ensures) l (sym c.if-same.ensures) in (
+    let f = passed k c.args.default c.args.base bs c.args.count c.loop.counter c.loop.low c.loop.at c.loop-test.true _ (sym c.in_ok-v.ensures) l (sym (g.met.K.Kind.same_is _ _) ∙ sym c.if-eq.ensures) in (
       subst (λ x. behind k.width (c.args.count - (c.loop.counter + 1)) (c.loop.at + (2 + x)) ≤ length bs) (sym w) (omega (arith, c.loop.invariant.0)),
       omega arith,
       c.loop.invariant.2 ∙ f ∙ (λ j. done (entries k c.args.default c.args.base bs (c.args.count - (c.loop.counter + 1)) (sym n j + 1) (c.loop.at + (2 + sym w j)))),

@@ -1,6 +1,5 @@
-use Rattle.std.proofs.Common.{◌∙◌}
-use Rattle.record.proofs.Grows.{grown_after}
+use Rattle.record.proofs.Grows.{puts_after}
 use Rattle.record.proofs.write.put_entry.Goals as goal
 
 pub returns : goal.returns
-returns g c = record { named = c.put_value.ensures.named ∙ c.pair.ensures.named; grown = grown_after c.pair.ensures.grown c.put_value.ensures.grown }
+returns g c = puts_after c.pair.ensures c.put_value.ensures
