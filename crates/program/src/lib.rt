@@ -11,3 +11,4 @@ pub mod program;
 pub mod shape;
 pub mod sizes;
 mod sizing;
+pub mod suited;

@@ -1,0 +1,4 @@
+//! Bytes of a bounded number, kept in the value itself.
+#![tactic(auto)]
+
+pub mod buffer;

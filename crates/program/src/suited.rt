@@ -1,0 +1,16 @@
+ghost use Rattle.std.specs.Prelude.{◌≡◌, true};
+ghost use Rattle.program.specs.Verdict.{suits};
+ghost use Rattle.program.specs.Programs.{shown};
+
+use crate::program::Program;
+use kind::kind::Kind;
+use std::marker::PhantomData;
+
+pub mod suiting;
+
+/// A checked program that is for the kind.
+pub struct ProgramFor<'p, K: Kind> {
+    program: &'p Program,
+    kind: PhantomData<K>,
+    ghost suited: { suits K.meaning (shown program.now) ≡ true },
+}
