@@ -1,6 +1,7 @@
 ghost use Rattle.std.specs.Prelude.{◌≡◌};
-ghost use Rattle.refusal.specs.Causes.{listed};
+ghost use Rattle.refusal.specs.Causes.{layer_number, listed};
 
+use crate::layer::Layer;
 use std::fmt;
 
 /// Why a call is refused. A round and an inbox's read have one number for memory that is short, in two layers.
@@ -118,45 +119,43 @@ impl Cause {
         }
     }
 
-    /// The layer that refused: 1 program, 2 link, 3 tree, 4 inbox, 5 round.
-    pub fn layer(self) -> u8
-        ensures { result ≡ (listed self).layer }
+    /// The layer that refused.
+    pub fn layer(self) -> Layer
+        ensures { layer_number result ≡ (listed self).layer }
     {
         match self {
-            Cause::ProgramLength => 1,
-            Cause::ProgramVersion => 1,
-            Cause::ProgramCount => 1,
-            Cause::OtherKind => 1,
-            Cause::BlockCounts => 1,
-            Cause::FunctionCount => 1,
-            Cause::Parameters => 1,
-            Cause::ExpressionCut => 1,
-            Cause::UnknownCode => 1,
-            Cause::LiteralRefused => 1,
-            Cause::NotAvailable => 1,
-            Cause::ProgramLeftover => 1,
-            Cause::FunctionTooLarge => 1,
-            Cause::LinkRefused => 2,
-            Cause::MessageLength => 3,
-            Cause::MessageVersion => 3,
-            Cause::MessageCount => 3,
-            Cause::OtherProgram => 3,
-            Cause::OwnMessage => 3,
-            Cause::MessageCut => 3,
-            Cause::RecordCount => 3,
-            Cause::PlaceNotDue => 3,
-            Cause::ChoiceRefused => 3,
-            Cause::ValueRefused => 3,
-            Cause::EntryRefused => 3,
-            Cause::MessageLeftover => 3,
-            Cause::ItemTooLong => 4,
-            Cause::SendersFull => 4,
-            Cause::BytesFull => 4,
-            Cause::ReadingsRefused => 5,
-            Cause::MemoryShort => 5,
-            Cause::BufferShort => 4,
-            Cause::OutputShort => 5,
-            Cause::LimitRefused => 4,
+            Cause::ProgramLength
+            | Cause::ProgramVersion
+            | Cause::ProgramCount
+            | Cause::OtherKind
+            | Cause::BlockCounts
+            | Cause::FunctionCount
+            | Cause::Parameters
+            | Cause::ExpressionCut
+            | Cause::UnknownCode
+            | Cause::LiteralRefused
+            | Cause::NotAvailable
+            | Cause::ProgramLeftover
+            | Cause::FunctionTooLarge => Layer::Program,
+            Cause::LinkRefused => Layer::Link,
+            Cause::MessageLength
+            | Cause::MessageVersion
+            | Cause::MessageCount
+            | Cause::OtherProgram
+            | Cause::OwnMessage
+            | Cause::MessageCut
+            | Cause::RecordCount
+            | Cause::PlaceNotDue
+            | Cause::ChoiceRefused
+            | Cause::ValueRefused
+            | Cause::EntryRefused
+            | Cause::MessageLeftover => Layer::Tree,
+            Cause::ItemTooLong
+            | Cause::SendersFull
+            | Cause::BytesFull
+            | Cause::BufferShort
+            | Cause::LimitRefused => Layer::Inbox,
+            Cause::ReadingsRefused | Cause::MemoryShort | Cause::OutputShort => Layer::Round,
         }
     }
 
