@@ -64,11 +64,11 @@ impl Kind for LabelSets {
     }
 
     fn read(bytes: &[u8]) -> Option<LabelSet> {
-        LabelSet::from_bytes(bytes)
+        LabelSet::from_be_bytes(bytes)
     }
 
     fn write(v: LabelSet, out: &mut [u8]) {
-        let bytes = v.to_bytes();
+        let bytes = v.to_be_bytes();
         out[0..8].copy_from_slice(&bytes);
     }
 }

@@ -69,11 +69,11 @@ impl Kind for Numbers {
     }
 
     fn read(bytes: &[u8]) -> Option<Number> {
-        Number::from_bytes(bytes)
+        Number::from_be_bytes(bytes)
     }
 
     fn write(v: Number, out: &mut [u8]) {
-        let bytes = v.to_bytes();
+        let bytes = v.to_be_bytes();
         out[0..4].copy_from_slice(&bytes);
     }
 }

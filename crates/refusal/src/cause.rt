@@ -113,6 +113,7 @@ pub enum Cause {
 
 impl Cause {
     /// The number by which a refusal is told.
+    // A method, and no discriminant: two causes have one number.
     pub fn number(self) -> u8
         ensures { result ≡ (listed self).number }
     {

@@ -6,6 +6,8 @@ use super::LabelSet;
 /// The bit above that of the highest label.
 const NEXT_BIT: u64 = 0x1000_0000_0000_0000;
 
+// Methods, as those of std with these names are: a conversion would not say the order of the bytes, and bits that are no
+// set have no error to tell.
 impl LabelSet {
     /// The set of these bits: `None` if any of the upper four is set.
     pub fn from_bits(bits: u64) -> Option<LabelSet>
@@ -19,14 +21,14 @@ impl LabelSet {
     }
 
     /// The bits, highest byte first.
-    pub(crate) fn to_bytes(self) -> [u8; 8]
+    pub(crate) fn to_be_bytes(self) -> [u8; 8]
         ensures { result ≡ sets.written self }
     {
         self.bits().to_be_bytes()
     }
 
     /// The set that the bytes write: `None` for other than eight bytes, and if any of the upper four bits is set.
-    pub(crate) fn from_bytes(bytes: &[u8]) -> Option<LabelSet>
+    pub(crate) fn from_be_bytes(bytes: &[u8]) -> Option<LabelSet>
         ensures { result ≡ sets.read bytes.now }
     {
         let bytes = bytes.try_into().ok()?;

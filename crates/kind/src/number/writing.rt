@@ -3,16 +3,17 @@ ghost use Rattle.kind.specs.Numbers as numbers;
 
 use super::Number;
 
+// Methods, as those of std with these names are: a conversion would not say the order of the bytes.
 impl Number {
     /// Two's complement, highest byte first.
-    pub(crate) fn to_bytes(self) -> [u8; 4]
+    pub(crate) fn to_be_bytes(self) -> [u8; 4]
         ensures { result ≡ numbers.written self }
     {
         self.value().cast_unsigned().to_be_bytes()
     }
 
     /// The number that the bytes write: `None` for other than four bytes, and for 80000000.
-    pub(crate) fn from_bytes(bytes: &[u8]) -> Option<Number>
+    pub(crate) fn from_be_bytes(bytes: &[u8]) -> Option<Number>
         ensures { result ≡ numbers.read bytes.now }
     {
         let bytes = bytes.try_into().ok()?;

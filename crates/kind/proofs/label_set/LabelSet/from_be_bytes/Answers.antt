@@ -3,7 +3,7 @@ use Rattle.std.proofs.lemmas.Bool.{cond-true}
 use Rattle.kind.specs.Bytes.{are_bytes, value}
 use Rattle.kind.specs.LabelSets.{in_sixty}
 use Rattle.kind.specs.BytesLemmas.{are_bytes_if, value_8}
-use Rattle.kind.proofs.label_set.LabelSet.from_bytes.Goals as goal
+use Rattle.kind.proofs.label_set.LabelSet.from_be_bytes.Goals as goal
 
 pub returns : goal.returns
 returns c =
