@@ -7,11 +7,11 @@ use Rattle.trace.specs.States.{State}
 use Rattle.trace.specs.Lines.{Line, Possible, end}
 use Rattle.trace.specs.Promises.{Keeps}
 use Rattle.node.specs.declared.node.Node.{Node}
-use Rattle.node.specs.Owns.{kept}
+use Rattle.buffer.specs.Buffers.{held_bytes}
 
 -- by what its inbox holds
 abbrev pub state : {K I : Type 0} → (I → Contents) → Node K I → State
-state meaning n = record { program = n.program; number = n.number; inbox = meaning n.inbox; last = kept n.last }
+state meaning n = record { program = n.program; number = n.number; inbox = meaning n.inbox; last = held_bytes n.last }
 
 -- a line without calls
 abbrev pub begun : Program → ℕ → Contents → Line

@@ -1,5 +1,6 @@
-use crate::own::LastTree;
+use buffer::buffer::Buffer;
 use program::program::Program;
+use record::header::MOST_BYTES;
 use std::marker::PhantomData;
 
 mod calls;
@@ -12,6 +13,6 @@ pub struct Node<K, I> {
     program: Program,
     number: u16,
     inbox: I,
-    last: LastTree,
+    last: Buffer<MOST_BYTES>,
     kind: PhantomData<K>,
 }

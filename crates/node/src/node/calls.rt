@@ -7,7 +7,7 @@ ghost use Rattle.node.specs.Nodes.{state, begun, Begins};
 
 use super::Node;
 use super::delivery::join;
-use crate::own::LastTree;
+use buffer::buffer::Buffer;
 use inbox::generic::clear;
 use inbox::inbox::Inbox;
 use inbox::limits::LONGEST_ITEM;
@@ -28,7 +28,7 @@ impl<K: Kind, I: Inbox> Node<K, I> {
             program: *program,
             number,
             inbox,
-            last: LastTree::none(),
+            last: Buffer::empty(),
             kind: PhantomData,
         }
     }
@@ -51,7 +51,7 @@ impl<K: Kind, I: Inbox> Node<K, I> {
     pub fn last_tree(&self) -> &[u8]
         ensures { result.now ≡ (state I.Inbox.meaning self.now).last }
     {
-        self.last.bytes()
+        self.last.as_slice()
     }
 
     /// The smallest held sender that is at least `k`.
@@ -79,10 +79,8 @@ impl<K: Kind, I: Inbox> Node<K, I> {
         let sender = self.check_arriving(link, message)?;
         let mut item = [0; LONGEST_ITEM];
         let n = join(link, message, &mut item);
-        match self.inbox.put(sender, &item[0..n]) {
-            Ok(()) => Ok(sender),
-            Err(refusal) => Err(refusal),
-        }
+        self.inbox.put(sender, &item[..n])?;
+        Ok(sender)
     }
 
     /// Ends that a sender is held, and answers whether it was.

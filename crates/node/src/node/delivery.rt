@@ -7,7 +7,7 @@ ghost use Rattle.node.specs.Nodes.{state};
 use super::Node;
 use inbox::inbox::Inbox;
 use kind::kind::Kind;
-use program::check::suits;
+use program::suited::ProgramFor;
 use refusal::cause::Cause;
 use refusal::refused::Refusal;
 use tree::message::read;
@@ -21,7 +21,7 @@ pub(crate) fn join(link: &[u8], message: &[u8], item: &mut [u8]) -> usize
 {
     let n = link.len();
     let end = n + message.len();
-    item[0..n].copy_from_slice(link);
+    item[..n].copy_from_slice(link);
     item[n..end].copy_from_slice(message);
     end
 }
@@ -32,12 +32,7 @@ impl<K: Kind, I: Inbox> Node<K, I> {
         ensures is { result ≡ mapped sender_of (arriving K.Kind.meaning (state I.Inbox.meaning self.now) link.now message.now) }
         ensures fits { OnOk result (length link.now + length message.now ≤ 2064) }
     {
-        if !suits::<K>(&self.program) {
-            return Err(Refusal {
-                cause: Cause::OtherKind,
-                position: 7,
-            });
-        }
+        ProgramFor::<K>::of(&self.program)?;
         if K::read(link).is_none() {
             return Err(Refusal {
                 cause: Cause::LinkRefused,

@@ -8,6 +8,7 @@ ghost use Rattle.trace.specs.Promises.{Promise, seen_in};
 ghost use Rattle.node.specs.Nodes.{state};
 
 use super::Node;
+use buffer::buffer::Buffer;
 use inbox::inbox::Inbox;
 use kind::kind::Kind;
 use refusal::refused::Refusal;
@@ -20,7 +21,7 @@ impl<K: Kind, I: Inbox> Node<K, I> {
         requires { length tree.now ≤ 2048 }
         ensures { state I.Inbox.meaning self.new ≡ passed (state I.Inbox.meaning self.old) tree.now }
     {
-        self.last.keep(tree);
+        self.last = Buffer::of(tree);
         self.inbox.passing();
     }
 
@@ -43,13 +44,13 @@ impl<K: Kind, I: Inbox> Node<K, I> {
             &self.program,
             self.number,
             &self.inbox,
-            self.last.bytes(),
+            self.last.as_slice(),
             readings,
             values,
             bytes,
             output,
         )?;
-        self.pass(&output[0..n]);
+        self.pass(&output[..n]);
         Ok((value, n))
     }
 }
