@@ -24,7 +24,7 @@ pub narrow : (p : Program) → (shown p).shape.width ≤ 16
 narrow p = subst (λ (k : KindShape). k.width ≤ 16) (sym (program_parts p).shaped) p.narrow
 
 pub short : (p : Program) → length (shown p).block ≤ 1024
-short p = let e = ap length (program_parts p).kept in let l = length-take p.length p.block in omega (arith, p.within)
+short p = let e = ap length (program_parts p).kept in let l = length-take p.block.len p.block.bytes in omega (arith, p.block.within)
 
 abbrev Inside : ℕ → Function → Type 0
 Inside n f = f.start ≤ n

@@ -66,7 +66,7 @@ impl Program {
     pub fn block(&self) -> &[u8]
         ensures { result.now ≡ (shown self.now).block }
     {
-        &self.block[0..self.length]
+        self.block.as_slice()
     }
 
     // The sizes of the function that is run.

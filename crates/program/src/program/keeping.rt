@@ -1,4 +1,4 @@
-ghost use Rattle.std.specs.Prelude.{◌≡◌, ◌≤◌, length, take, Ok};
+ghost use Rattle.std.specs.Prelude.{◌≡◌, ◌≤◌, length, Ok};
 ghost use Rattle.program.specs.Verdict.{read_block, none_refused};
 ghost use Rattle.program.specs.Sizing.{outlined};
 ghost use Rattle.program.specs.Programs.{block_of};
@@ -6,17 +6,7 @@ ghost use Rattle.program.specs.Programs.{block_of};
 use super::Program;
 use crate::outline::Outline;
 use crate::shape::KindShape;
-
-// The bytes, with zeros behind them.
-fn padded(bytes: &[u8]) -> [u8; 1024]
-    requires { length bytes.now ≤ 1024 }
-    ensures full { length result ≡ 1024 }
-    ensures front { take (length bytes.now) result ≡ bytes.now }
-{
-    let mut block = [0; 1024];
-    block[0..bytes.len()].copy_from_slice(bytes);
-    block
-}
+use buffer::buffer::Buffer;
 
 // The program of a block that was read with this outline.
 pub(crate) fn keep(shape: KindShape, outline: Outline, bytes: &[u8]) -> Program
@@ -31,8 +21,7 @@ pub(crate) fn keep(shape: KindShape, outline: Outline, bytes: &[u8]) -> Program
     ensures shape { result.shape ≡ shape }
 {
     Program {
-        block: padded(bytes),
-        length: bytes.len(),
+        block: Buffer::of(bytes),
         shape,
         outline,
     }
