@@ -21,10 +21,10 @@ use Rattle.program.specs.Sizing.{row, with_part, no_sums, combined, totals, size
 
 -- the sums of a call's arguments are those of the unfolded expressions
 record Summed (w : ℕ) (es : Exprs) (s : Sums) : Type 0 where
-  size : size_all es ≡ s.size
-  depth : depth_all es ≡ s.depth
-  weight : weight_all w es ≡ s.weight
-  places : places_all es ≡ s.places
+  size : size_all es ≡ s.all.size
+  depth : depth_all es ≡ s.all.depth
+  weight : weight_all w es ≡ s.all.weight
+  places : places_all es ≡ s.all.places
 
 arguments_summed : (w n : ℕ) (ps : Parts n) → Summed w (arguments n ps) (totals w n ps)
 arguments_summed w zero ps = record { size = refl; depth = refl; weight = refl; places = refl }
@@ -208,9 +208,3 @@ module _ (w : ℕ) (read : ℕ → ℕ → Outcome (Expr × ℕ)) (n at first ot
   pub by_others : (a : Sizes) (next : ℕ) (s : Outcome (Sums × ℕ)) → Ok (a, next) ≡ sized w (read at first) → s ≡ part_sums w read (n - 1) next others others →
       after s (λ s. Ok (with_part a s.0, s.1)) ≡ part_sums w read n at first others
   by_others a next s e p = ap (λ (z : Outcome (Sums × ℕ)). after {B = Sums × ℕ} z (λ s. Ok (with_part a s.0, s.1))) p ∙ by_first (Ok (a, next)) e
-
-pub small_more : {s : Sizes} {m n : ℕ} → Small s m → m ≤ n → Small s n
-small_more h le = record { size = omega arith; depth = omega arith; weight = omega arith; places = h.places }
-
-pub small_sums_more : {s : Sums} {m n : ℕ} → SmallSums s m → m ≤ n → SmallSums s n
-small_sums_more h le = record { size = omega arith; depth = omega arith; weight = omega arith; places = h.places; branches = h.branches }

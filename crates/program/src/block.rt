@@ -97,7 +97,7 @@ pub(crate) fn check_functions<K: Kind>(
     ensures is { result ≡ tabled shape.width (functions (refused_by K.Kind.meaning) shape header.sensors block.now header.functions 10 []) }
 {
     let count = header.functions as usize;
-    let mut table = [Function::NONE; 32];
+    let mut table = [Function::default(); 32];
     let mut at = 10;
     // By index: a function is read against the rows before its own.
     for i in 0..count {

@@ -35,7 +35,7 @@ impl<'b> Source<'b> {
     {
         match e {
             Expression::Call(n) => self.table[n as usize],
-            _ => Function::NONE,
+            _ => Function::default(),
         }
     }
 
@@ -86,7 +86,7 @@ impl<'b> Source<'b> {
         ensures is { (fs : List Unfolded) (fuel : ℕ) → self.entry.table.now ≡ map (row self.entry.shape.width) fs → length self.entry.bytes.now ≤ fuel + at → result ≡ part_sums self.entry.shape.width (expr (refused_by K.Kind.meaning) self.entry.shape self.entry.sensors fs self.entry.bytes.now fuel) count at first others }
     {
         if count == 0 {
-            return Ok((Sums::NONE, at));
+            return Ok((Sums::default(), at));
         }
         let (a, next) = self.size_expression::<K>(at, first)?;
         let (rest, end) = self.size_parts::<K>(count - 1, next, others, others)?;

@@ -58,7 +58,7 @@ impl Program {
         if n < 32 {
             self.outline.functions[n as usize]
         } else {
-            Function::NONE
+            Function::default()
         }
     }
 

@@ -1,10 +1,11 @@
 use Rattle.std.proofs.Common.{arith}
 use Rattle.std.proofs.lemmas.Result.{err_from_is_err_and}
+use Rattle.program.proofs.Defaults.{default_row}
 use Rattle.program.proofs.Tables.{front, limited_take, by_refusal, by_end, more, none, safe_none, safe_more}
 use Rattle.program.proofs.block.check_functions.Goals as goal
 
 pub loop-i-init : goal.loop-i-init
-loop-i-init g c = record { safe = safe_none _ c.requires.long; sofar = none _ _ _ _ _ }
+loop-i-init g c = rw (default_row c.default-table.result c.default-table.ensures) (record { safe = safe_none _ c.requires.long; sofar = none _ _ _ _ _ })
 
 pub invariant_of-source-clause-limited : goal.invariant_of-source-clause-limited
 invariant_of-source-clause-limited g c = limited_take _ _ c.loop-i.invariant.safe.limited

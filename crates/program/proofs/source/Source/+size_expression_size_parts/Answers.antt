@@ -3,6 +3,7 @@ use Rattle.std.proofs.lemmas.Result.{err_from_is_err_and}
 use Rattle.program.specs.Reading.{expr}
 use Rattle.program.specs.Verdict.{refused_by}
 use Rattle.program.proofs.Steps.{by_decode, by_literal, by_number, by_parts, part_sums_none, by_first, by_others}
+use Rattle.program.proofs.Defaults.{default_sums}
 use Rattle.program.proofs.source.Source.+size_expression_size_parts.Goals as goal
 
 pub size_expression-returns-in_err-e-clause-is : goal.size_expression-returns-in_err-e-clause-is
@@ -40,7 +41,7 @@ size_expression-returns-clause-is g t c fs fuel tab enough =
 
 pub size_parts-returns-then-count-eq0-clause-is : goal.size_parts-returns-then-count-eq0-clause-is
 size_parts-returns-then-count-eq0-clause-is g t c fs fuel tab enough =
-    sym (part_sums_none _ (expr (refused_by g.K.Kind.meaning) c.args.self.shape c.args.self.sensors fs c.args.self.bytes.now fuel) _ _ _ _ c.if-count-eq0.true)
+    rw (default_sums c.default.result c.default.ensures) (sym (part_sums_none _ (expr (refused_by g.K.Kind.meaning) c.args.self.shape c.args.self.sensors fs c.args.self.bytes.now fuel) _ _ _ _ c.if-count-eq0.true))
 
 pub size_parts-returns-in_err-a-clause-is : goal.size_parts-returns-in_err-a-clause-is
 size_parts-returns-in_err-a-clause-is g t c fs fuel tab enough =
