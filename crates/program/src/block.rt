@@ -1,4 +1,5 @@
 ghost use Rattle.std.specs.Prelude.{◌≡◌, ℕ, ◌+◌, ◌<◌, ◌≤◌, List, [], map, length, IfOk, Ok};
+ghost use Rattle.buffer.specs.Buffers.{held_bytes};
 ghost use Rattle.refusal.specs.Outcomes.{after, must};
 ghost use Rattle.refusal.specs.declared.cause.Cause.TheVariants.{FunctionCount};
 ghost use Rattle.program.specs.Expressions.{Unfolded};
@@ -10,6 +11,7 @@ use crate::function::Function;
 use crate::header::Header;
 use crate::shape::KindShape;
 use crate::source::Source;
+use buffer::buffer::Buffer;
 use kind::kind::Kind;
 use refusal::cause::Cause;
 use refusal::refused::Refusal;
@@ -88,14 +90,14 @@ impl<'b> Source<'b> {
 pub(crate) fn check_functions<K: Kind>(
     shape: KindShape,
     header: Header,
-    block: &[u8],
+    block: &Buffer<1024>,
 ) -> Result<[Function; 32], Refusal>
-    requires long { 10 ≤ length block.now }
-    requires short { length block.now ≤ 1024 }
+    requires long { 10 ≤ length (held_bytes block.now) }
     requires few { header.functions ≤ 32 }
     ensures long { IfOk result (λ t. length t ≡ 32) }
-    ensures is { result ≡ tabled shape.width (functions (refused_by K.Kind.meaning) shape header.sensors block.now header.functions 10 []) }
+    ensures is { result ≡ tabled shape.width (functions (refused_by K.Kind.meaning) shape header.sensors (held_bytes block.now) header.functions 10 []) }
 {
+    let bytes = block.as_slice();
     let count = header.functions as usize;
     let mut table = [Function::default(); 32];
     let mut at = 10;
@@ -105,7 +107,7 @@ pub(crate) fn check_functions<K: Kind>(
             shape,
             sensors: header.sensors,
             table: &table[..i],
-            bytes: block,
+            bytes,
         };
         let f = source.check_function::<K>(at, i + 1 == count)?;
         table[i] = f;

@@ -8,6 +8,7 @@ use crate::header::read_header;
 use crate::outline::Outline;
 use crate::program::{Program, keep};
 use crate::shape::KindShape;
+use buffer::buffer::Buffer;
 use kind::kind::Kind;
 use refusal::refused::Refusal;
 
@@ -32,8 +33,9 @@ pub fn check<K: Kind>(bytes: &[u8]) -> Result<Program, Refusal>
 {
     let shape = shape::<K>();
     let header = read_header(shape, bytes)?;
-    let functions = check_functions::<K>(shape, header, bytes)?;
-    Ok(keep(shape, Outline { header, functions }, bytes))
+    let block = Buffer::of(bytes);
+    let functions = check_functions::<K>(shape, header, &block)?;
+    Ok(keep(shape, Outline { header, functions }, block))
 }
 
 /// Whether a checked program is for the kind. It is, if the check of this kind gave it.

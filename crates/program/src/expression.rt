@@ -1,7 +1,6 @@
 ghost use Rattle.std.specs.Prelude.{◌≡◌, ℕ, ◌+◌, ◌^◌, ◌<◌, ◌≤◌, length, IfOk};
-ghost use Rattle.program.specs.Reading.{expression_of, start, decoded, available, part_count, binds};
+ghost use Rattle.program.specs.Reading.{expression_of, start, decoded, part_count, binds};
 
-use crate::shape::KindShape;
 use refusal::cause::Cause;
 use refusal::refused::Refusal;
 
@@ -94,25 +93,6 @@ impl Expression {
             | Expression::Call(_)
             | Expression::Sensor(_) => at + 2,
             _ => at + 1,
-        }
-    }
-
-    // Whether its number names something: `functions` stand before this one, `scope` variables are in sight.
-    pub(crate) fn is_available(
-        self,
-        shape: KindShape,
-        sensors: u8,
-        functions: usize,
-        scope: usize,
-    ) -> bool
-        ensures { result ≡ available shape sensors functions scope self }
-    {
-        match self {
-            Expression::Variable(n) => (n as usize) < scope,
-            Expression::Operator(n) | Expression::Fold(n) => n < shape.operators,
-            Expression::Sensor(n) => n < sensors,
-            Expression::Call(n) => (n as usize) < functions,
-            _ => true,
         }
     }
 

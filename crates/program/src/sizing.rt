@@ -1,6 +1,6 @@
 ghost use Rattle.std.specs.Prelude.{◌≡◌, ℕ, ◌+◌, ◌<◌, ◌≤◌, List, map, length, slice_index_or};
 ghost use Rattle.program.specs.Expressions.{Unfolded};
-ghost use Rattle.program.specs.Reading.{readable, expr};
+ghost use Rattle.program.specs.Reading.{readable, available, expr};
 ghost use Rattle.program.specs.Verdict.{refused_by};
 ghost use Rattle.program.specs.Sizing.{sized, part_sums, row};
 ghost use Rattle.program.specs.Bounds.{Limits, Ends, PartsEnd};
@@ -23,6 +23,19 @@ impl<'b> Source<'b> {
             Expression::Literal(at) => {
                 K::read(&self.bytes[at..at + self.shape.width as usize]).is_some()
             }
+            _ => true,
+        }
+    }
+
+    // Whether a number names something: a function before this one, or one of the `scope` variables in sight.
+    fn is_available(self, e: Expression, scope: usize) -> bool
+        ensures { result ≡ available self.entry.shape self.entry.sensors (length self.entry.table.now) scope e }
+    {
+        match e {
+            Expression::Variable(n) => (n as usize) < scope,
+            Expression::Operator(n) | Expression::Fold(n) => n < self.shape.operators,
+            Expression::Sensor(n) => n < self.sensors,
+            Expression::Call(n) => (n as usize) < self.table.len(),
             _ => true,
         }
     }
@@ -58,7 +71,7 @@ impl<'b> Source<'b> {
                 position: at + 1,
             });
         }
-        if !e.is_available(self.shape, self.sensors, self.table.len(), scope) {
+        if !self.is_available(e, scope) {
             return Err(Refusal {
                 cause: Cause::NotAvailable,
                 position: at + 1,

@@ -5,7 +5,7 @@ use Rattle.program.proofs.Tables.{front, limited_take, by_refusal, by_end, more,
 use Rattle.program.proofs.block.check_functions.Goals as goal
 
 pub loop-i-init : goal.loop-i-init
-loop-i-init g c = rw (default_row c.default-table.result c.default-table.ensures) (record { safe = safe_none _ c.requires.long; sofar = none _ _ _ _ _ })
+loop-i-init g c = rw (default_row c.default-table.result c.default-table.ensures) (record { safe = safe_none _ (rw (c.as_slice-bytes.ensures) c.requires.long); sofar = none _ _ _ _ _ })
 
 pub invariant_of-source-clause-limited : goal.invariant_of-source-clause-limited
 invariant_of-source-clause-limited g c = limited_take _ _ c.loop-i.invariant.safe.limited
@@ -14,7 +14,7 @@ pub returns-in_err-f : goal.returns-in_err-f
 returns-in_err-f g c =
     let p = err_from_is_err_and c.from_residual.result c.from_residual.ensures.1 in
     let s = c.loop-i.invariant.sofar in
-    rw (p.1, p.2) (record { long = tt; is = by_refusal s _ (omega arith) (c.in_err-f.ensures.is s.trees (front s)) })
+    rw (p.1, p.2) (record { long = tt; is = rw (← c.as_slice-bytes.ensures) (by_refusal s _ (omega arith) (c.in_err-f.ensures.is s.trees (front s))) })
 
 pub loop-i-preserved : goal.loop-i-preserved
 loop-i-preserved g c =
@@ -26,4 +26,4 @@ loop-i-preserved g c =
     }
 
 pub returns : goal.returns
-returns g c = record { long = c.loop-i.invariant.safe.long; is = by_end c.loop-i.invariant.sofar (omega arith) }
+returns g c = record { long = c.loop-i.invariant.safe.long; is = rw (← c.as_slice-bytes.ensures) (by_end c.loop-i.invariant.sofar (omega arith)) }
