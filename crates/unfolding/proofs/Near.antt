@@ -120,3 +120,23 @@ split read (suc n) at h = let p : n ≡ suc n - 1 = omega arith in record {
   end = ap (λ m. (listed read m (read at).1).1) p;
   count = ap (λ m. places (read at).0 + places_all (listed read m (read at).1).0) p;
 }
+
+-- parts in a row of which some are walked: where the next begins, and how many places the walked have
+pub record Walked (read : ℕ → Expr × ℕ) (n at walked next inside : ℕ) : Type 0 where
+  pub end : (listed read n at).1 ≡ (listed read (n - walked) next).1
+  pub count : places_all (listed read n at).0 ≡ inside + places_all (listed read (n - walked) next).0
+
+module _ {read : ℕ → Expr × ℕ} {n at walked next inside : ℕ} (w : Walked read n at walked next inside) where
+  -- there are at least the places of the next part
+  pub walked_next : walked < n → inside + places (read next).0 ≤ places_all (listed read n at).0
+  walked_next h = let s = split read (n - walked) next (omega arith) in let c = s.count in omega (arith, w.count)
+
+  pub walked_more : (m k : ℕ) → walked < n → m ≡ (read next).1 → k ≡ places (read next).0 → Walked read n at (walked + 1) m (inside + k)
+  walked_more m k h e f =
+      let s = split read (n - walked) next (omega arith) in
+      let p : n - walked - 1 ≡ n - (walked + 1) = omega arith in
+      let l : listed read (n - walked - 1) (read next).1 ≡ listed read (n - (walked + 1)) m = λ i. listed read (p i) (sym e i) in
+      record {
+        end = w.end ∙ s.end ∙ ap (λ (x : Exprs × ℕ). x.1) l;
+        count = let c = s.count in let b = ap (λ (x : Exprs × ℕ). places_all x.0) l in omega (arith, w.count);
+      }

@@ -4,7 +4,7 @@ use Rattle.program.specs.Measures.{places, places_all}
 use Rattle.program.specs.Programs.{shown}
 use Rattle.unfolding.specs.Unfolding.{listed}
 use Rattle.unfolding.specs.Walks.{rows, unfolded_in}
-use Rattle.unfolding.proofs.Near.{split, blank}
+use Rattle.unfolding.proofs.Near.{blank, walked_next, walked_more}
 use Rattle.unfolding.proofs.Programs.{known_in, near_in, start_small, body_start, body_is}
 use Rattle.unfolding.proofs.skip.+skip_skip_called_skip_parts.Goals as goal
 
@@ -72,40 +72,20 @@ skip_called-skip-places-requires t c =
 
 pub skip_parts-skip-next-requires : goal.skip_parts-skip-next-requires
 skip_parts-skip-next-requires t c =
-    let s = split (unfolded_in c.args.program.now c.args.depth) c.args.count c.args.at (omega arith) in
     let m = c.decreases in
-    let d = s.count in
     let few = c.requires.few in
-    (omega arith, (c.requires.near, omega arith))
+    let w = walked_next c.loop.invariant.walked c.loop-test.true in
+    (omega arith, (c.loop.invariant.near, omega arith))
 
-pub skip_parts-skip_parts-end-requires : goal.skip_parts-skip_parts-end-requires
-skip_parts-skip_parts-end-requires t c =
-    let p = c.args.program.now in
-    let read = unfolded_in p c.args.depth in
-    let s = split (unfolded_in c.args.program.now c.args.depth) c.args.count c.args.at (omega arith) in
-    let m = c.decreases in
-    let d = s.count in
+pub skip_parts-overflow_add-places : goal.skip_parts-overflow_add-places
+skip_parts-overflow_add-places t c =
     let few = c.requires.few in
-    let e = c.skip-next.ensures.end in
-    let h = near_in p c.args.depth c.args.at c.requires.near in
-    let q = ap (λ n. places_all (listed read (c.args.count - 1) n).0) e in
-    (omega arith, (omega arith, omega arith))
-
-pub skip_parts-overflow_add-result : goal.skip_parts-overflow_add-result
-skip_parts-overflow_add-result t c =
-    let read = unfolded_in c.args.program.now c.args.depth in
-    let s = split (unfolded_in c.args.program.now c.args.depth) c.args.count c.args.at (omega arith) in
-    let d = s.count in
-    let few = c.requires.few in
+    let w = walked_next c.loop.invariant.walked c.loop-test.true in
     let a = c.skip-next.ensures.places in
-    let b = c.skip_parts-end.ensures.places ∙ ap (λ n. places_all (listed read (c.args.count - 1) n).0) c.skip-next.ensures.end in
     record { fits = omega arith }
 
-pub skip_parts-returns : goal.skip_parts-returns
-skip_parts-returns t c =
-    let read = unfolded_in c.args.program.now c.args.depth in
-    let s = split (unfolded_in c.args.program.now c.args.depth) c.args.count c.args.at (omega arith) in
-    let d = s.count in
-    let a = c.skip-next.ensures.places in
-    let b = c.skip_parts-end.ensures.places ∙ ap (λ n. places_all (listed read (c.args.count - 1) n).0) c.skip-next.ensures.end in
-    record { end = c.skip_parts-end.ensures.end ∙ ap (λ n. (listed read (c.args.count - 1) n).1) c.skip-next.ensures.end ∙ sym s.end; places = omega arith }
+pub skip_parts-loop-preserved : goal.skip_parts-loop-preserved
+skip_parts-loop-preserved t c =
+    let h = near_in c.args.program.now c.args.depth c.loop.end c.loop.invariant.near in
+    let e = c.skip-next.ensures.end in
+    record { near = omega arith; walked = walked_more c.loop.invariant.walked _ _ c.loop-test.true e c.skip-next.ensures.places }
