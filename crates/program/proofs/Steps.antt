@@ -1,8 +1,7 @@
 -- Sizing by the bytes, without the tree: what the code computes is what the tree has. Assumes nothing.
-use Rattle.std.proofs.Common.{◌≡◌, ℕ, zero, suc, ◌+◌, ◌-◌, ◌<◌, ◌≤◌, Bool, true, false, not, List, [], map, length, get_or, take, drop, Ok, Err, sym, refl, ap, ◌∙◌, subst, sub-one, arith, length-drop}
+use Rattle.std.proofs.Common.{◌≡◌, ℕ, zero, suc, ◌+◌, ◌-◌, ◌<◌, ◌≤◌, Bool, true, false, List, [], map, length, get_or, take, drop, Ok, Err, sym, refl, ap, ◌∙◌, subst, sub-one, arith, length-drop}
 use lib.ListN.{get_or-map, length-map}
-use Rattle.std.proofs.lemmas.List.{drop_all, take_all, take-take, length-take}
-use Rattle.std.proofs.lemmas.Slice.{between_is}
+use Rattle.std.proofs.lemmas.List.{drop_all, take_all}
 use Rattle.refusal.specs.declared.refused.Refusal.{Refusal}
 use Rattle.program.specs.declared.shape.KindShape.{KindShape}
 use Rattle.program.specs.declared.sizes.Sizes.{Sizes}
@@ -15,7 +14,6 @@ use Rattle.refusal.specs.Outcomes.{Outcome, refuse, after, must}
 use Rattle.refusal.proofs.Outcomes.{after_same, mapped_after}
 use Rattle.program.specs.Expressions.{Expr, Exprs, Unfolded}
 use Rattle.program.specs.Measures.{sizes_of, size_all, depth_all, weight_all, places_all}
-use Rattle.program.specs.Bounds.{Small, SmallSums}
 use Rattle.program.specs.Reading.{decoded, readable, available, part_count, binds, callee, Parts, arguments, built, no_function, parts, called_function, expr_by, expr}
 use Rattle.program.specs.Sizing.{row, with_part, no_sums, combined, totals, sized, summed, part_sums}
 

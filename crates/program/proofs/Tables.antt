@@ -9,7 +9,7 @@ use Rattle.program.specs.declared.shape.KindShape.{KindShape}
 use Rattle.program.specs.declared.function.Function.{Function}
 use Rattle.program.specs.Expressions.{Unfolded}
 use Rattle.program.specs.Bounds.{Limited, Limits}
-use Rattle.refusal.specs.Outcomes.{Outcome, after}
+use Rattle.refusal.specs.Outcomes.{after}
 use Rattle.refusal.proofs.Outcomes.{mapped_ok, mapped_err}
 use Rattle.program.specs.Verdict.{function, functions}
 use Rattle.program.specs.Sizing.{row, no_row, table_of, rowed, tabled}

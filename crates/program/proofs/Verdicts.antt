@@ -1,15 +1,15 @@
 -- What the check found is the verdict. Assumes nothing.
-use Rattle.std.proofs.Common.{◌≡◌, ℕ, true, ◌&&◌, eqb, List, [], Ok, Err, sym, refl, ap, ◌∙◌, subst, eq-eqb}
+use Rattle.std.proofs.Common.{◌≡◌, ℕ, List, [], Ok, Err, sym, ap, ◌∙◌, subst}
 use Rattle.refusal.specs.declared.refused.Refusal.{Refusal}
 use Rattle.refusal.specs.Outcomes.{Outcome, after, InLayer}
-use Rattle.refusal.proofs.Outcomes.{after_ok, mapped_ok, mapped_err, ok_same, after_is}
+use Rattle.refusal.proofs.Outcomes.{mapped_ok, mapped_err, ok_same, after_is}
 use Rattle.kind.specs.Kind.{Meaning}
 use Rattle.program.specs.declared.program.Program.{Program}
 use Rattle.program.specs.declared.header.Header.{Header}
 use Rattle.program.specs.declared.function.Function.{Function}
 use Rattle.program.specs.declared.shape.KindShape.{KindShape}
 use Rattle.program.specs.Expressions.{Unfolded}
-use Rattle.program.specs.Verdict.{header, functions, Checked, read_block, none_refused, shape_of, refused_by, suits, verdict}
+use Rattle.program.specs.Verdict.{header, functions, Checked, read_block, none_refused, shape_of, refused_by, verdict}
 use Rattle.program.specs.Sizing.{table_of, tabled, outline_of, outlined}
 use Rattle.program.specs.Programs.{block_of, shown}
 use Rattle.program.proofs.Accepted.{keeps_block}

@@ -84,6 +84,7 @@ impl<'b> Source<'b> {
     }
 
     // The sums over `count` parts from `at` on, and where they end: the first sees `first` variables, the others `others`.
+    // By recursion: the sums are put together from the last part on, and a loop would treat the first part apart.
     #[cycle(size_expression_size_parts)]
     fn size_parts<K: Kind>(
         self,

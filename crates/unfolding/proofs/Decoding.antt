@@ -9,7 +9,7 @@ use Rattle.refusal.specs.declared.cause.Cause.TheVariants as cause
 use Rattle.refusal.specs.Outcomes.{Outcome, refuse}
 use Rattle.refusal.proofs.Outcomes.{ok_same}
 use Rattle.program.specs.declared.expression.Expression.{Expression}
-use Rattle.program.specs.declared.expression.Expression.TheVariants.{Literal, Variable, Let, Operator, Fold, Exchange, Share, If, Call, Sensor, Link, Own, Choose}
+use Rattle.program.specs.declared.expression.Expression.TheVariants.{Literal}
 use Rattle.program.specs.Reading.{number_bytes, coded, decoded}
 use Rattle.unfolding.specs.Unfolding.{expression_of, expression_at, start}
 
