@@ -1,3 +1,4 @@
+pub mod Defaults
 pub mod Steps
 pub mod Tables
 pub mod Accepted

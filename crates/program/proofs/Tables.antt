@@ -9,7 +9,8 @@ use Rattle.program.specs.declared.shape.KindShape.{KindShape}
 use Rattle.program.specs.declared.function.Function.{Function}
 use Rattle.program.specs.Expressions.{Unfolded}
 use Rattle.program.specs.Bounds.{Limited, Limits}
-use Rattle.refusal.specs.Outcomes.{Outcome, after}
+use Rattle.refusal.specs.Outcomes.{after}
+use Rattle.refusal.proofs.Outcomes.{mapped_ok, mapped_err}
 use Rattle.program.specs.Verdict.{function, functions}
 use Rattle.program.specs.Sizing.{row, no_row, table_of, rowed, tabled}
 
@@ -18,14 +19,6 @@ pub record Sofar (refuses : List ℕ → Bool) (k : KindShape) (sensors : ℕ) (
   pub many : length trees ≡ i
   pub rows : table ≡ table_of k.width trees
   pub rest : functions refuses k sensors b (count - i) at trees ≡ functions refuses k sensors b count 10 []
-
-rowed_ok : (w : ℕ) (f : Function) (r : Outcome Unfolded) → Ok f ≡ rowed w r → (g : Unfolded) × (r ≡ Ok g) × (f ≡ row w g)
-rowed_ok w f (Ok g) e = (g, refl, cc)
-rowed_ok w f (Err x) e = let z : ◌≡◌ {A = ℕ} 0 1 = cc in absurd (omega arith)
-
-rowed_err : (w : ℕ) (x : Refusal) (r : Outcome Unfolded) → Err x ≡ rowed w r → r ≡ Err x
-rowed_err w x (Err y) e = cc
-rowed_err w x (Ok g) e = let z : ◌≡◌ {A = ℕ} 0 1 = cc in absurd (omega arith)
 
 -- a row is written behind the others
 write : (xs : List Function) (f : Function) (n i : ℕ) → length xs ≡ i → 0 < n → set (xs ++ replicate n no_row) i f ≡ (xs ++ (f ∷ [])) ++ replicate (n - 1) no_row
@@ -87,7 +80,7 @@ module _ {refuses : List ℕ → Bool} {k : KindShape} {sensors : ℕ} {b : List
   pub by_refusal : (x : Refusal) → i < count → Err x ≡ rowed k.width (function refuses k sensors b s.trees (eqb (i + 1) count) at) →
       Err x ≡ tabled k.width (functions refuses k sensors b count 10 [])
   by_refusal x h e =
-      let f : function refuses k sensors b s.trees (eqb (i + 1) count) at ≡ Err x = rowed_err k.width x _ e in
+      let f : function refuses k sensors b s.trees (eqb (i + 1) count) at ≡ Err x = mapped_err (row k.width) _ x (sym e) in
       let g : functions refuses k sensors b (count - i) at s.trees ≡ Err x = functions_more refuses k sensors b (count - i) i count at s.trees refl h ∙ rw f in
       ap (tabled k.width) (sym g ∙ s.rest)
 
@@ -118,8 +111,8 @@ module _ {refuses : List ℕ → Bool} {k : KindShape} {sensors : ℕ} {b : List
   pub more : (f : Function) → i < count → count ≤ 32 → Ok f ≡ rowed k.width (function refuses k sensors b s.trees (eqb (i + 1) count) at) →
       Sofar refuses k sensors b count (i + 1) f.end (set table i f)
   more f h few e =
-      let q = rowed_ok k.width f (function refuses k sensors b s.trees (eqb (i + 1) count) at) e in
-      more_by f q.0 h few q.1 q.2
+      let q = mapped_ok (row k.width) (function refuses k sensors b s.trees (eqb (i + 1) count) at) f (sym e) in
+      more_by f q.0 h few q.1 (sym q.2)
 
 pub none : (refuses : List ℕ → Bool) (k : KindShape) (sensors : ℕ) (b : List ℕ) (count : ℕ) → Sofar refuses k sensors b count 0 10 (replicate 32 no_row)
 none refuses k sensors b count = record {

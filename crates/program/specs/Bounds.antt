@@ -13,11 +13,8 @@ pub record Small (s : Sizes) (n : ℕ) : Type 0 where
   pub places : s.places ≤ s.size
 
 pub record SmallSums (s : Sums) (n : ℕ) : Type 0 where
-  pub size : s.size ≤ 5000 * n
-  pub depth : s.depth ≤ 5000 * n
-  pub weight : s.weight ≤ 5000 * n
-  pub places : s.places ≤ s.size
-  pub branches : s.first + s.others ≤ s.weight
+  pub all : Small s.all n
+  pub branches : s.first + s.others ≤ s.all.weight
 
 -- what keeps the sums in 32 bits
 pub record Room (s : Sizes) : Type 0 where
@@ -27,10 +24,7 @@ pub record Room (s : Sizes) : Type 0 where
   pub places : s.places ≤ 10000000
 
 pub record RoomSums (s : Sums) : Type 0 where
-  pub size : s.size ≤ 10000000
-  pub depth : s.depth ≤ 10000000
-  pub weight : s.weight ≤ 10000000
-  pub places : s.places ≤ 10000000
+  pub all : Room s.all
   pub first : s.first ≤ 10000000
   pub others : s.others ≤ 10000000
 

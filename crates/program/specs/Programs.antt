@@ -1,5 +1,6 @@
 -- What a checked program in hand stands for. Assumes nothing.
-use Rattle.std.specs.Prelude.{ℕ, List, [], take, Ok, Err}
+use Rattle.std.specs.Prelude.{ℕ, List, [], Ok, Err}
+use Rattle.buffer.specs.Buffers.{held_bytes}
 use Rattle.refusal.specs.Outcomes.{Outcome}
 use Rattle.program.specs.declared.program.Program.{Program}
 use Rattle.program.specs.Expressions.{Expr}
@@ -7,7 +8,7 @@ use Rattle.program.specs.Verdict.{Checked, run, read_block, none_refused}
 
 -- the bytes that it keeps
 abbrev pub block_of : Program → List ℕ
-block_of p = take p.length p.block
+block_of p = held_bytes p.block
 
 abbrev pub checked_or : Checked → Outcome Checked → Checked
 checked_or d (Err e) = d

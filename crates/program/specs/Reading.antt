@@ -1,5 +1,5 @@
 -- How an expression is read from the bytes of a function's part. Assumes nothing.
-use Rattle.std.specs.Prelude.{ℕ, zero, suc, ◌+◌, Bool, true, cond, not, ◌||◌, List, length, take, drop, Ok, ◌==◌, nat_le, nat_lt, slice_index, slice_index_or}
+use Rattle.std.specs.Prelude.{ℕ, zero, suc, ◌+◌, Bool, true, cond, not, ◌||◌, List, length, take, drop, Some, None, Option, Ok, ◌==◌, nat_le, nat_lt, slice_index, slice_index_or}
 use Rattle.refusal.specs.declared.cause.Cause.TheVariants as cause
 use Rattle.refusal.specs.Outcomes.{Outcome, refuse, after, must}
 use Rattle.program.specs.declared.shape.KindShape.{KindShape}
@@ -8,6 +8,39 @@ use Rattle.program.specs.declared.expression.Expression.TheVariants.{Literal, Va
 use Rattle.program.specs.Expressions.{Expr, Exprs, literal, variable, bind, operator, fold, exchange, share, branch, call, sensor, link, own, choose, none, then, Unfolded}
 
 -- THE CODE AND ITS NUMBERS
+-- the expression with the code c and the number n, at a position; none if no expression has the code
+abbrev pub expression_of : ℕ → ℕ → ℕ → Option Expression
+expression_of c n at =
+    cond (c == 1) (Some (Literal (at + 1))) (
+    cond (c == 2) (Some (Variable n)) (
+    cond (c == 3) (Some Let) (
+    cond (c == 4) (Some (Operator n)) (
+    cond (c == 5) (Some (Fold n)) (
+    cond (c == 6) (Some Exchange) (
+    cond (c == 7) (Some Share) (
+    cond (c == 8) (Some If) (
+    cond (c == 9) (Some (Call n)) (
+    cond (c == 10) (Some (Sensor n)) (
+    cond (c == 11) (Some Link) (
+    cond (c == 12) (Some Own) (
+    cond (c == 13) (Some Choose) None))))))))))))
+
+-- where the parts of an expression at a position begin
+abbrev pub start : ℕ → ℕ → Expression → ℕ
+start w at (Literal from) = from + w
+start w at (Variable n) = at + 2
+start w at Let = at + 1
+start w at (Operator n) = at + 2
+start w at (Fold n) = at + 2
+start w at Exchange = at + 1
+start w at Share = at + 1
+start w at If = at + 1
+start w at (Call n) = at + 2
+start w at (Sensor n) = at + 2
+start w at Link = at + 1
+start w at Own = at + 1
+start w at Choose = at + 1
+
 -- how many bytes of numbers follow a code: a literal's w bytes, one number, or none
 abbrev pub number_bytes : ℕ → ℕ → ℕ
 number_bytes w c = cond (c == 1) w (cond (c == 2 || c == 4 || c == 5 || c == 9 || c == 10) 1 0)

@@ -1,5 +1,5 @@
 -- Sizing by the bytes alone: what the code adds up and keeps in the place of unfolded expressions. Assumes nothing.
-use Rattle.std.specs.Prelude.{◌≡◌, ℕ, zero, suc, ◌+◌, ◌-◌, ◌≤◌, max, Bool, false, List, ◌++◌, map, length, take, drop, replicate, slice_index_or}
+use Rattle.std.specs.Prelude.{ℕ, zero, suc, ◌+◌, ◌-◌, max, List, ◌++◌, map, length, replicate}
 use Rattle.refusal.specs.Outcomes.{Outcome, mapped}
 use Rattle.program.specs.declared.sizes.Sizes.{Sizes}
 use Rattle.program.specs.declared.sizes.Sums.{Sums}
@@ -12,29 +12,29 @@ use Rattle.program.specs.Measures.{sizes_of, record_weight}
 use Rattle.program.specs.Reading.{Parts, parts}
 use Rattle.program.specs.Verdict.{Checked}
 
+-- the sizes of nothing, and of two expressions together: the depth is that of the deeper
+abbrev pub no_sizes : Sizes
+no_sizes = record { size = 0; depth = 0; weight = 0; places = 0 }
+
+abbrev pub together : Sizes → Sizes → Sizes
+together a b = record { size = a.size + b.size; depth = max a.depth b.depth; weight = a.weight + b.weight; places = a.places + b.places }
+
 -- the sums of no part, and of one part more in front
 abbrev pub no_sums : Sums
-no_sums = record { size = 0; depth = 0; weight = 0; places = 0; first = 0; others = 0 }
+no_sums = record { all = no_sizes; first = 0; others = 0 }
 
 abbrev pub with_part : Sizes → Sums → Sums
-with_part a s = record {
-  size = a.size + s.size;
-  depth = max a.depth s.depth;
-  weight = a.weight + s.weight;
-  places = a.places + s.places;
-  first = a.weight;
-  others = max s.first s.others;
-}
+with_part a s = record { all = together a s.all; first = a.weight; others = max s.first s.others }
 
 -- the sizes of an expression that is no place, of an exchange or share, and of an if, from the sums of its parts
 abbrev pub plain : Sums → Sizes
-plain s = record { size = s.size + 1; depth = s.depth + 1; weight = s.weight; places = s.places }
+plain s = record { size = s.all.size + 1; depth = s.all.depth + 1; weight = s.all.weight; places = s.all.places }
 
 abbrev pub sending : ℕ → Sums → Sizes
-sending w s = record { size = s.size + 1; depth = s.depth + 1; weight = s.weight + record_weight w; places = s.places + 1 }
+sending w s = record { size = s.all.size + 1; depth = s.all.depth + 1; weight = s.all.weight + record_weight w; places = s.all.places + 1 }
 
 abbrev pub choosing : Sums → Sizes
-choosing s = record { size = s.size + 1; depth = s.depth + 1; weight = 5 + s.first + s.others; places = s.places + 1 }
+choosing s = record { size = s.all.size + 1; depth = s.all.depth + 1; weight = 5 + s.first + s.others; places = s.all.places + 1 }
 
 -- the sizes of an expression from those of a called body and its parts
 abbrev pub combined : ℕ → Expression → Sizes → Sums → Sizes
@@ -71,7 +71,7 @@ abbrev pub row : ℕ → Unfolded → Function
 row w f = record { parameters = f.parameters; start = f.start; end = f.end; sizes = sizes_of w f.body }
 
 abbrev pub no_row : Function
-no_row = record { parameters = 0; start = 0; end = 0; sizes = record { size = 0; depth = 0; weight = 0; places = 0 } }
+no_row = record { parameters = 0; start = 0; end = 0; sizes = no_sizes }
 
 -- the rows of some functions, and free rows behind them
 abbrev pub table_of : ℕ → List Unfolded → List Function
@@ -88,22 +88,3 @@ outline_of w c = record { header = c.header; functions = table_of w c.functions 
 
 abbrev pub outlined : ℕ → Outcome Checked → Outcome Outline
 outlined w = mapped (outline_of w)
-
--- by offset: which literals are refused
-abbrev pub flagged : List Bool → Expression → Bool
-flagged flags (Literal at) = slice_index_or flags at false
-flagged flags (Variable n) = false
-flagged flags Let = false
-flagged flags (Operator n) = false
-flagged flags (Fold n) = false
-flagged flags Exchange = false
-flagged flags Share = false
-flagged flags If = false
-flagged flags (Call n) = false
-flagged flags (Sensor n) = false
-flagged flags Link = false
-flagged flags Own = false
-flagged flags Choose = false
-
-abbrev pub Marked : (List ℕ → Bool) → ℕ → List ℕ → List Bool → Type 0
-Marked refuses w b flags = (i : ℕ) → i + w ≤ length b → slice_index_or flags i false ≡ refuses (take w (drop i b))

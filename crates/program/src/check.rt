@@ -1,14 +1,14 @@
-ghost use Rattle.std.specs.Prelude.{◌≡◌, ◌≤◌, true, length, IfOk};
+ghost use Rattle.std.specs.Prelude.{◌≡◌, ◌≤◌, true, IfOk};
 ghost use Rattle.refusal.specs.Outcomes.{mapped, InLayer};
-ghost use Rattle.program.specs.Verdict.{verdict, shape_of, refused_by, suits as suits_kind};
+ghost use Rattle.program.specs.Verdict.{verdict, shape_of, suits as suits_kind};
 ghost use Rattle.program.specs.Programs.{shown};
-ghost use Rattle.program.specs.Sizing.{Marked};
 
 use crate::block::check_functions;
 use crate::header::read_header;
 use crate::outline::Outline;
 use crate::program::{Program, keep};
 use crate::shape::KindShape;
+use buffer::buffer::Buffer;
 use kind::kind::Kind;
 use refusal::refused::Refusal;
 
@@ -25,21 +25,6 @@ fn shape<K: Kind>() -> KindShape
     }
 }
 
-// By offset, whether the kind refuses a literal there.
-fn refused_literals<K: Kind>(width: u8, block: &[u8]) -> [bool; 1024]
-    requires some { 1 ≤ width }
-    requires short { length block.now ≤ 1024 }
-    ensures { Marked (refused_by K.Kind.meaning) width block.now result }
-{
-    let mut flags = [false; 1024];
-    for i in 0..block.len() {
-        if block.len() - i >= width as usize {
-            flags[i] = K::read(&block[i..i + width as usize]).is_none();
-        }
-    }
-    flags
-}
-
 /// The program in the bytes, checked for the kind; or the first refusal.
 pub fn check<K: Kind>(bytes: &[u8]) -> Result<Program, Refusal>
     ensures is { mapped shown result ≡ verdict K.Kind.meaning bytes.now }
@@ -48,15 +33,9 @@ pub fn check<K: Kind>(bytes: &[u8]) -> Result<Program, Refusal>
 {
     let shape = shape::<K>();
     let header = read_header(shape, bytes)?;
-    let refused = refused_literals::<K>(shape.width, bytes);
-    let functions = check_functions(
-        shape,
-        &refused,
-        header.sensors,
-        header.functions as usize,
-        bytes,
-    )?;
-    Ok(keep(shape, Outline { header, functions }, bytes))
+    let block = Buffer::of(bytes);
+    let functions = check_functions::<K>(shape, header, &block)?;
+    Ok(keep(shape, Outline { header, functions }, block))
 }
 
 /// Whether a checked program is for the kind. It is, if the check of this kind gave it.

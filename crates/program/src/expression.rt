@@ -1,7 +1,6 @@
-ghost use Rattle.std.specs.Prelude.{◌≡◌, ℕ, ◌+◌, ◌<◌, ◌≤◌, length, IfOk};
-ghost use Rattle.program.specs.Reading.{decoded, available, part_count, binds};
+ghost use Rattle.std.specs.Prelude.{◌≡◌, ℕ, ◌+◌, ◌^◌, ◌<◌, ◌≤◌, length, IfOk};
+ghost use Rattle.program.specs.Reading.{expression_of, start, decoded, part_count, binds};
 
-use crate::shape::KindShape;
 use refusal::cause::Cause;
 use refusal::refused::Refusal;
 
@@ -35,54 +34,65 @@ pub(crate) fn decode(rest: &[u8], at: usize, width: u8) -> Result<(Expression, u
     ensures is { result ≡ decoded width rest.now at }
     ensures moves { IfOk result (λ d. (at < d.1) × (d.1 ≤ at + length rest.now) × ((o : ℕ) → d.0 ≡ Expression.Literal o → o + width ≡ d.1)) }
 {
-    match rest {
-        [] => Err(Refusal {
-            cause: Cause::ExpressionCut,
-            position: at,
-        }),
-        [1, numbers @ ..] if numbers.len() >= width as usize => {
-            Ok((Expression::Literal(at + 1), at + 1 + width as usize))
-        }
-        [2, n, ..] => Ok((Expression::Variable(*n), at + 2)),
-        [3, ..] => Ok((Expression::Let, at + 1)),
-        [4, n, ..] => Ok((Expression::Operator(*n), at + 2)),
-        [5, n, ..] => Ok((Expression::Fold(*n), at + 2)),
-        [6, ..] => Ok((Expression::Exchange, at + 1)),
-        [7, ..] => Ok((Expression::Share, at + 1)),
-        [8, ..] => Ok((Expression::If, at + 1)),
-        [9, n, ..] => Ok((Expression::Call(*n), at + 2)),
-        [10, n, ..] => Ok((Expression::Sensor(*n), at + 2)),
-        [11, ..] => Ok((Expression::Link, at + 1)),
-        [12, ..] => Ok((Expression::Own, at + 1)),
-        [13, ..] => Ok((Expression::Choose, at + 1)),
-        [1 | 2 | 4 | 5 | 9 | 10, ..] => Err(Refusal {
-            cause: Cause::ExpressionCut,
-            position: at,
-        }),
-        _ => Err(Refusal {
+    let cut = Refusal {
+        cause: Cause::ExpressionCut,
+        position: at,
+    };
+    let [code, numbers @ ..] = rest else {
+        return Err(cut);
+    };
+    let number = numbers.first().copied().unwrap_or(0);
+    let Some(e) = Expression::of(*code, number, at) else {
+        return Err(Refusal {
             cause: Cause::UnknownCode,
             position: at,
-        }),
+        });
+    };
+    let next = e.parts_start(at, width as usize);
+    if next > at + rest.len() {
+        return Err(cut);
     }
+    Ok((e, next))
 }
 
 impl Expression {
-    // Whether its number names something: `functions` stand before this one, `scope` variables are in sight.
-    pub(crate) fn is_available(
-        self,
-        shape: KindShape,
-        sensors: u8,
-        functions: usize,
-        scope: usize,
-    ) -> bool
-        ensures { result ≡ available shape sensors functions scope self }
+    /// The expression with a code at a position of a block, and with the number behind the code if it has one; none if
+    /// no expression has the code. For the layers above: a walk keeps its position near the block.
+    pub fn of(code: u8, number: u8, at: usize) -> Option<Expression>
+        requires { at + 1 < 2 ^ 64 }
+        ensures { result ≡ expression_of code number at }
+    {
+        match code {
+            1 => Some(Expression::Literal(at + 1)),
+            2 => Some(Expression::Variable(number)),
+            3 => Some(Expression::Let),
+            4 => Some(Expression::Operator(number)),
+            5 => Some(Expression::Fold(number)),
+            6 => Some(Expression::Exchange),
+            7 => Some(Expression::Share),
+            8 => Some(Expression::If),
+            9 => Some(Expression::Call(number)),
+            10 => Some(Expression::Sensor(number)),
+            11 => Some(Expression::Link),
+            12 => Some(Expression::Own),
+            13 => Some(Expression::Choose),
+            _ => None,
+        }
+    }
+
+    /// Where its parts begin, if it stands at `at`, with values of `width` bytes.
+    pub fn parts_start(self, at: usize, width: usize) -> usize
+        requires { start width at self < 2 ^ 64 }
+        ensures { result ≡ start width at self }
     {
         match self {
-            Expression::Variable(n) => (n as usize) < scope,
-            Expression::Operator(n) | Expression::Fold(n) => n < shape.operators,
-            Expression::Sensor(n) => n < sensors,
-            Expression::Call(n) => (n as usize) < functions,
-            _ => true,
+            Expression::Literal(from) => from + width,
+            Expression::Variable(_)
+            | Expression::Operator(_)
+            | Expression::Fold(_)
+            | Expression::Call(_)
+            | Expression::Sensor(_) => at + 2,
+            _ => at + 1,
         }
     }
 

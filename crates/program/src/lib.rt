@@ -11,4 +11,5 @@ pub mod program;
 pub mod shape;
 pub mod sizes;
 mod sizing;
+mod source;
 pub mod suited;

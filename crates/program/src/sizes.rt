@@ -5,7 +5,7 @@ ghost use Rattle.program.specs.Sizing.{combined, with_part};
 use crate::expression::Expression;
 
 /// The sizes of an unfolded expression.
-#[derive(Clone, Copy)]
+#[derive(Clone, Copy, Default)]
 pub struct Sizes {
     pub size: u32,
     pub depth: u32,
@@ -13,37 +13,12 @@ pub struct Sizes {
     pub places: u32,
 }
 
-impl Sizes {
-    /// Those of nothing.
-    pub const NONE: Sizes = Sizes {
-        size: 0,
-        depth: 0,
-        weight: 0,
-        places: 0,
-    };
-}
-
-/// The sums over some parts: the depth of the deepest, and, for an if, the weight of the first and of the heaviest other.
-#[derive(Clone, Copy)]
+/// The sums over some parts, with the depth of the deepest, and, for an if, the weight of the first and of the heaviest other.
+#[derive(Clone, Copy, Default)]
 pub struct Sums {
-    pub size: u32,
-    pub depth: u32,
-    pub weight: u32,
-    pub places: u32,
+    pub all: Sizes,
     pub first: u32,
     pub others: u32,
-}
-
-impl Sums {
-    /// Those over no part.
-    pub const NONE: Sums = Sums {
-        size: 0,
-        depth: 0,
-        weight: 0,
-        places: 0,
-        first: 0,
-        others: 0,
-    };
 }
 
 // The sums with one part more in front.
@@ -54,10 +29,12 @@ pub(crate) fn add_part(a: Sizes, s: Sums) -> Sums
     ensures small { (m n : ℕ) → Small a m → SmallSums s n → SmallSums result (m + n) }
 {
     Sums {
-        size: a.size + s.size,
-        depth: a.depth.max(s.depth),
-        weight: a.weight + s.weight,
-        places: a.places + s.places,
+        all: Sizes {
+            size: a.size + s.all.size,
+            depth: a.depth.max(s.all.depth),
+            weight: a.weight + s.all.weight,
+            places: a.places + s.all.places,
+        },
         first: a.weight,
         others: s.first.max(s.others),
     }
@@ -76,15 +53,18 @@ pub(crate) fn combine(width: u8, e: Expression, body: Sizes, parts: Sums) -> Siz
     };
     let (weight, places) = match e {
         Expression::Exchange | Expression::Share => {
-            (sums.weight + 5 + width as u32 + 17 * (2 + width as u32), 1)
+            (
+                sums.all.weight + 5 + width as u32 + 17 * (2 + width as u32),
+                1,
+            )
         }
         Expression::If => (5 + sums.first + sums.others, 1),
-        _ => (sums.weight, 0),
+        _ => (sums.all.weight, 0),
     };
     Sizes {
-        size: sums.size + 1,
-        depth: sums.depth + 1,
+        size: sums.all.size + 1,
+        depth: sums.all.depth + 1,
         weight,
-        places: sums.places + places,
+        places: sums.all.places + places,
     }
 }

@@ -1,62 +1,19 @@
 -- Where expressions end, and what a step has of places. Assumes nothing.
-use Rattle.std.proofs.Common.{◌≡◌, ℕ, zero, suc, ◌+◌, ◌-◌, ◌<◌, ◌≤◌, Bool, true, false, cond, eqb, List, length, get_or, Some, None, Option, sym, refl, ap, ◌∙◌, subst, ⊎_elim, arith}
+use Rattle.std.proofs.Common.{◌≡◌, ℕ, zero, suc, ◌+◌, ◌-◌, ◌<◌, ◌≤◌, List, length, get_or, Some, None, Option, sym, refl, ap, ◌∙◌, ⊎_elim, arith}
 use Rattle.std.proofs.lemmas.List.{get_or_past}
 use Rattle.std.proofs.lemmas.Bool.{cases_lt}
 use Rattle.program.specs.Expressions.{Expr, Exprs, link}
 use Rattle.program.specs.Measures.{places, places_all}
 use Rattle.unfolding.specs.Unfolding.{expression_of, expression_at, named, count_in, own_places, body_places, start, listed, unfolded_by, unfolded_or, unfolded}
+use Rattle.unfolding.proofs.Decoding.{start_low}
 use Rattle.program.specs.declared.function.Function.{Function}
 use Rattle.program.specs.declared.expression.Expression.{Expression}
 use Rattle.program.specs.declared.expression.Expression.TheVariants.{Literal, Variable, Let, Operator, Fold, Exchange, Share, If, Call, Sensor, Link, Own, Choose}
 
-module _ (w at : ℕ) (wide : 1 ≤ w) where
-  record Low (st : Expression) : Type 0 where
-    low : start w at st ≤ at + 1 + w
-
-  abbrev LowIn : Option Expression → Type 0
-  LowIn None = Unit {0}
-  LowIn (Some st) = Low st
-
-  or : (b : Bool) (s t : Option Expression) → LowIn s → LowIn t → LowIn (cond b s t)
-  or true s t x y = x
-  or false s t x y = y
-
-  low_step : (c n : ℕ) → LowIn (expression_of c n at)
-  low_step c n =
-      let t14 : Option Expression = None in
-      let l14 : LowIn t14 = tt in
-      let t13 = cond (eqb c 13) (Some Choose) t14 in
-      let l13 : LowIn t13 = or (eqb c 13) (Some Choose) t14 (record { low = omega arith }) l14 in
-      let t12 = cond (eqb c 12) (Some Own) t13 in
-      let l12 : LowIn t12 = or (eqb c 12) (Some Own) t13 (record { low = omega arith }) l13 in
-      let t11 = cond (eqb c 11) (Some Link) t12 in
-      let l11 : LowIn t11 = or (eqb c 11) (Some Link) t12 (record { low = omega arith }) l12 in
-      let t10 = cond (eqb c 10) (Some (Sensor n)) t11 in
-      let l10 : LowIn t10 = or (eqb c 10) (Some (Sensor n)) t11 (record { low = omega arith }) l11 in
-      let t9 = cond (eqb c 9) (Some (Call n)) t10 in
-      let l9 : LowIn t9 = or (eqb c 9) (Some (Call n)) t10 (record { low = omega arith }) l10 in
-      let t8 = cond (eqb c 8) (Some If) t9 in
-      let l8 : LowIn t8 = or (eqb c 8) (Some If) t9 (record { low = omega arith }) l9 in
-      let t7 = cond (eqb c 7) (Some Share) t8 in
-      let l7 : LowIn t7 = or (eqb c 7) (Some Share) t8 (record { low = omega arith }) l8 in
-      let t6 = cond (eqb c 6) (Some Exchange) t7 in
-      let l6 : LowIn t6 = or (eqb c 6) (Some Exchange) t7 (record { low = omega arith }) l7 in
-      let t5 = cond (eqb c 5) (Some (Fold n)) t6 in
-      let l5 : LowIn t5 = or (eqb c 5) (Some (Fold n)) t6 (record { low = omega arith }) l6 in
-      let t4 = cond (eqb c 4) (Some (Operator n)) t5 in
-      let l4 : LowIn t4 = or (eqb c 4) (Some (Operator n)) t5 (record { low = omega arith }) l5 in
-      let t3 = cond (eqb c 3) (Some Let) t4 in
-      let l3 : LowIn t3 = or (eqb c 3) (Some Let) t4 (record { low = omega arith }) l4 in
-      let t2 = cond (eqb c 2) (Some (Variable n)) t3 in
-      let l2 : LowIn t2 = or (eqb c 2) (Some (Variable n)) t3 (record { low = omega arith }) l3 in
-      let t1 = cond (eqb c 1) (Some (Literal (at + 1))) t2 in
-      let l1 : LowIn t1 = or (eqb c 1) (Some (Literal (at + 1))) t2 (record { low = omega arith }) l2 in
-      l1
-
 module _ (w : ℕ) (code : List ℕ) (table : List Function) (wide : 1 ≤ w) (narrow : w ≤ 16) where
   pub near_start : (at : ℕ) (st : Expression) → Some st ≡ expression_at code at → at ≤ length code + 17 → start w at st ≤ length code + 17
   near_start at st e h = ⊎_elim
-      (λ (lt : at < length code). let l : Low w at wide st = subst (LowIn w at wide) (sym e) (low_step w at wide (get_or code at 0) (get_or code (at + 1) 0)) in let m = l.low in omega arith)
+      (λ (lt : at < length code). omega (arith, start_low w at (get_or code at 0) (get_or code (at + 1) 0) st wide e))
       (λ (past : length code ≤ at). let z : Some st ≡ None = e ∙ ap (λ c. expression_of c (get_or code (at + 1) 0) at) (get_or_past code at 0 past) in let y : ◌≡◌ {A = ℕ} 0 1 = cc in absurd (omega arith))
       (cases_lt at (length code))
 
@@ -163,3 +120,23 @@ split read (suc n) at h = let p : n ≡ suc n - 1 = omega arith in record {
   end = ap (λ m. (listed read m (read at).1).1) p;
   count = ap (λ m. places (read at).0 + places_all (listed read m (read at).1).0) p;
 }
+
+-- parts in a row of which some are walked: where the next begins, and how many places the walked have
+pub record Walked (read : ℕ → Expr × ℕ) (n at walked next inside : ℕ) : Type 0 where
+  pub end : (listed read n at).1 ≡ (listed read (n - walked) next).1
+  pub count : places_all (listed read n at).0 ≡ inside + places_all (listed read (n - walked) next).0
+
+module _ {read : ℕ → Expr × ℕ} {n at walked next inside : ℕ} (w : Walked read n at walked next inside) where
+  -- there are at least the places of the next part
+  pub walked_next : walked < n → inside + places (read next).0 ≤ places_all (listed read n at).0
+  walked_next h = let s = split read (n - walked) next (omega arith) in let c = s.count in omega (arith, w.count)
+
+  pub walked_more : (m k : ℕ) → walked < n → m ≡ (read next).1 → k ≡ places (read next).0 → Walked read n at (walked + 1) m (inside + k)
+  walked_more m k h e f =
+      let s = split read (n - walked) next (omega arith) in
+      let p : n - walked - 1 ≡ n - (walked + 1) = omega arith in
+      let l : listed read (n - walked - 1) (read next).1 ≡ listed read (n - (walked + 1)) m = λ i. listed read (p i) (sym e i) in
+      record {
+        end = w.end ∙ s.end ∙ ap (λ (x : Exprs × ℕ). x.1) l;
+        count = let c = s.count in let b = ap (λ (x : Exprs × ℕ). places_all x.0) l in omega (arith, w.count);
+      }

@@ -24,49 +24,35 @@ pub narrow : (p : Program) → (shown p).shape.width ≤ 16
 narrow p = subst (λ (k : KindShape). k.width ≤ 16) (sym (program_parts p).shaped) p.narrow
 
 pub short : (p : Program) → length (shown p).block ≤ 1024
-short p = let e = ap length (program_parts p).kept in let l = length-take p.length p.block in omega (arith, p.within)
+short p = let e = ap length (program_parts p).kept in let l = length-take p.block.len p.block.bytes in omega (arith, p.block.within)
 
-abbrev Inside : ℕ → Function → Type 0
-Inside n f = f.start ≤ n
+-- what holds of a free row and of each function's row holds of every row
+module _ (P : Function → Type 0) (free : P no_row) where
+  free_rows : (k : ℕ) → AllByRecursion P (replicate k no_row)
+  free_rows zero = tt
+  free_rows (suc k) = (free, free_rows k)
 
-free_inside : (n k : ℕ) → AllByRecursion (Inside n) (replicate k no_row)
-free_inside n zero = tt
-free_inside n (suc k) = (omega arith, free_inside n k)
+  at_or : (xs : List Function) (i : ℕ) → AllByRecursion P xs → P (get_or xs i no_row)
+  at_or [] i h = free
+  at_or (x ∷ xs) zero h = h.0
+  at_or (x ∷ xs) (suc i) h = at_or xs i h.1
 
-at_or : (n : ℕ) (xs : List Function) (i : ℕ) → AllByRecursion (Inside n) xs → Inside n (get_or xs i no_row)
-at_or n [] i h = omega arith
-at_or n (x ∷ xs) zero h = h.0
-at_or n (x ∷ xs) (suc i) h = at_or n xs i h.1
+  every_row : (p : Program) (i : ℕ) → ((f : Unfolded) → Kept p.shape.width (block_of p) f → P (row (shown p).shape.width f)) → P (named (rows p) i)
+  every_row p i each =
+      let w = (shown p).shape.width in
+      let fs = (shown p).functions in
+      let all = All-weaker (Kept p.shape.width (block_of p)) (λ f. P (row w f)) each fs (found p).all in
+      at_or (table_of w fs) i (All-append P (map (row w) fs) (replicate (32 - length fs) no_row) (All-map P (row w) fs all) (free_rows (32 - length fs)))
 
 -- every function begins in the block
 pub placed : (p : Program) (i : ℕ) → (named (rows p) i).start ≤ length (shown p).block
 placed p i =
-    let n = length (shown p).block in
-    let w = (shown p).shape.width in
-    let fs = (shown p).functions in
-    let all : AllByRecursion (λ (f : Unfolded). Inside n (row w f)) fs =
-    All-weaker (Kept p.shape.width (block_of p)) _ (λ f k. let e = ap length (program_parts p).kept in omega (arith, k.inside)) fs (found p).all in
-    at_or n (table_of w fs) i (All-append (Inside n) (map (row w) fs) (replicate (32 - length fs) no_row) (All-map (Inside n) (row w) fs all) (free_inside n (32 - length fs)))
-
-abbrev Few : Function → Type 0
-Few f = f.parameters ≤ 8
-
-free_few : (k : ℕ) → AllByRecursion Few (replicate k no_row)
-free_few zero = tt
-free_few (suc k) = (omega arith, free_few k)
-
-few_at : (xs : List Function) (i : ℕ) → AllByRecursion Few xs → Few (get_or xs i no_row)
-few_at [] i h = omega arith
-few_at (x ∷ xs) zero h = h.0
-few_at (x ∷ xs) (suc i) h = few_at xs i h.1
+    let e = ap length (program_parts p).kept in
+    every_row (λ f. f.start ≤ length (shown p).block) (omega arith) p i (λ f k. omega (arith, e, k.inside))
 
 -- no function has more than eight parameters
 pub few_parameters : (p : Program) (i : ℕ) → (named (rows p) i).parameters ≤ 8
-few_parameters p i =
-    let w = (shown p).shape.width in
-    let fs = (shown p).functions in
-    let all : AllByRecursion (λ (f : Unfolded). Few (row w f)) fs = All-weaker (Kept p.shape.width (block_of p)) _ (λ f k. k.few) fs (found p).all in
-    few_at (table_of w fs) i (All-append Few (map (row w) fs) (replicate (32 - length fs) no_row) (All-map Few (row w) fs all) (free_few (32 - length fs)))
+few_parameters p i = every_row (λ f. f.parameters ≤ 8) (omega arith) p i (λ f k. k.few)
 
 pub known_in : (p : Program) (d at : ℕ) (st : Expression) (n s v : ℕ) → at ≤ length (shown p).block + 17 → 1 ≤ d → Some st ≡ expression_at (shown p).block at
     → n ≡ count_in (rows p) st → s ≡ start v at st → v ≡ (shown p).shape.width → Known (shown p).shape.width (shown p).block (rows p) d at st n s

@@ -1,49 +1,18 @@
 -- The bytes of a checked program as its unfolded expression, down to a depth: what a walk over the bytes follows.
 -- It stands for something at any byte; of a checked program it is what the check read. Assumes nothing.
-use Rattle.std.specs.Prelude.{ℕ, zero, suc, ◌+◌, cond, List, take, drop, Some, None, Option, ◌==◌, slice_index, slice_index_or}
+use Rattle.std.specs.Prelude.{ℕ, zero, suc, ◌+◌, List, take, drop, Some, None, Option, slice_index, slice_index_or}
 use Rattle.program.specs.declared.expression.Expression.{Expression}
 use Rattle.program.specs.declared.expression.Expression.TheVariants.{Literal, Variable, Let, Operator, Fold, Exchange, Share, If, Call, Sensor, Link, Own, Choose}
 use Rattle.program.specs.declared.function.Function.{Function}
 use Rattle.program.specs.Expressions.{Expr, Exprs, literal, variable, bind, operator, fold, exchange, share, branch, call, sensor, link, own, choose, none, then}
 use Rattle.program.specs.Measures.{places}
+pub use Rattle.program.specs.Reading.{expression_of, start}
 use Rattle.program.specs.Reading.{part_count, callee}
 use Rattle.program.specs.Sizing.{no_row}
 
--- the expression with the code c and the number n, at a position; none if no expression has the code
-abbrev pub expression_of : ℕ → ℕ → ℕ → Option Expression
-expression_of c n at =
-    cond (c == 1) (Some (Literal (at + 1))) (
-    cond (c == 2) (Some (Variable n)) (
-    cond (c == 3) (Some Let) (
-    cond (c == 4) (Some (Operator n)) (
-    cond (c == 5) (Some (Fold n)) (
-    cond (c == 6) (Some Exchange) (
-    cond (c == 7) (Some Share) (
-    cond (c == 8) (Some If) (
-    cond (c == 9) (Some (Call n)) (
-    cond (c == 10) (Some (Sensor n)) (
-    cond (c == 11) (Some Link) (
-    cond (c == 12) (Some Own) (
-    cond (c == 13) (Some Choose) None))))))))))))
-
+-- the expression at a position of the bytes, which are 0 past their end
 abbrev pub expression_at : List ℕ → ℕ → Option Expression
 expression_at code at = expression_of (slice_index code at) (slice_index code (at + 1)) at
-
--- where the parts of an expression at a position begin
-abbrev pub start : ℕ → ℕ → Expression → ℕ
-start w at (Literal from) = from + w
-start w at (Variable n) = at + 2
-start w at Let = at + 1
-start w at (Operator n) = at + 2
-start w at (Fold n) = at + 2
-start w at Exchange = at + 1
-start w at Share = at + 1
-start w at If = at + 1
-start w at (Call n) = at + 2
-start w at (Sensor n) = at + 2
-start w at Link = at + 1
-start w at Own = at + 1
-start w at Choose = at + 1
 
 -- how many places are its own
 abbrev pub own_places : Expression → ℕ

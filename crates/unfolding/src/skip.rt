@@ -8,6 +8,9 @@ use crate::step::{count_parts, expression_at, parts_start, places_own};
 use program::expression::Expression;
 use program::program::Program;
 
+// Position, depth and the two answers stay apart: a walk has them in its own state, and would make a struct of them anew
+// at each call.
+
 /// Where the expression at `at` ends, and how many places it has, down to a depth.
 #[cycle(skip_skip_called_skip_parts)]
 pub fn skip(program: &Program, at: usize, depth: usize) -> (usize, usize)
@@ -55,10 +58,12 @@ pub fn skip_parts(program: &Program, count: usize, at: usize, depth: usize) -> (
     ensures end { result.0 ≡ (listed (unfolded_in program.now depth) count at).1 }
     ensures places { result.1 ≡ places_all (listed (unfolded_in program.now depth) count at).0 }
 {
-    if count == 0 {
-        return (at, 0);
+    let mut end = at;
+    let mut places = 0;
+    for _ in 0..count {
+        let (next, inside) = skip(program, end, depth);
+        end = next;
+        places += inside;
     }
-    let (next, first) = skip(program, at, depth);
-    let (end, rest) = skip_parts(program, count - 1, next, depth);
-    (end, first + rest)
+    (end, places)
 }

@@ -10,7 +10,7 @@ use program::program::Program;
 fn byte(block: &[u8], i: usize) -> u8
     ensures { result ≡ slice_index block.now i }
 {
-    if i < block.len() { block[i] } else { 0 }
+    block.get(i).copied().unwrap_or(0)
 }
 
 /// The expression at a position of the program's block, without its parts; none where no expression has the code.
@@ -20,23 +20,7 @@ pub fn expression_at(program: &Program, at: usize) -> Option<Expression>
     ensures { result ≡ expression_at (shown program.now).block at }
 {
     let block = program.block();
-    let number = byte(block, at + 1);
-    match byte(block, at) {
-        1 => Some(Expression::Literal(at + 1)),
-        2 => Some(Expression::Variable(number)),
-        3 => Some(Expression::Let),
-        4 => Some(Expression::Operator(number)),
-        5 => Some(Expression::Fold(number)),
-        6 => Some(Expression::Exchange),
-        7 => Some(Expression::Share),
-        8 => Some(Expression::If),
-        9 => Some(Expression::Call(number)),
-        10 => Some(Expression::Sensor(number)),
-        11 => Some(Expression::Link),
-        12 => Some(Expression::Own),
-        13 => Some(Expression::Choose),
-        _ => None,
-    }
+    Expression::of(byte(block, at), byte(block, at + 1), at)
 }
 
 /// How many parts an expression of the program has.
@@ -55,15 +39,7 @@ pub fn parts_start(e: Expression, at: usize, width: usize) -> usize
     requires { start width at e < 2 ^ 64 }
     ensures { result ≡ start width at e }
 {
-    match e {
-        Expression::Literal(from) => from + width,
-        Expression::Variable(_)
-        | Expression::Operator(_)
-        | Expression::Fold(_)
-        | Expression::Call(_)
-        | Expression::Sensor(_) => at + 2,
-        _ => at + 1,
-    }
+    e.parts_start(at, width)
 }
 
 /// How many places are an expression's own.

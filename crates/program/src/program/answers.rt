@@ -55,10 +55,9 @@ impl Program {
     pub fn function(&self, n: u8) -> Function
         ensures { result ≡ slice_index_or (table_of (shown self.now).shape.width (shown self.now).functions) n no_row }
     {
-        if n < 32 {
-            self.outline.functions[n as usize]
-        } else {
-            Function::NONE
+        match self.outline.functions.get(n as usize) {
+            Some(f) => *f,
+            None => Function::default(),
         }
     }
 
@@ -66,7 +65,7 @@ impl Program {
     pub fn block(&self) -> &[u8]
         ensures { result.now ≡ (shown self.now).block }
     {
-        &self.block[0..self.length]
+        self.block.as_slice()
     }
 
     // The sizes of the function that is run.

@@ -1,38 +1,26 @@
-ghost use Rattle.std.specs.Prelude.{◌≡◌, ◌≤◌, length, take, Ok};
+ghost use Rattle.std.specs.Prelude.{◌≡◌, ◌≤◌, length, Ok};
+ghost use Rattle.buffer.specs.Buffers.{held_bytes};
 ghost use Rattle.program.specs.Verdict.{read_block, none_refused};
 ghost use Rattle.program.specs.Sizing.{outlined};
-ghost use Rattle.program.specs.Programs.{block_of};
 
 use super::Program;
 use crate::outline::Outline;
 use crate::shape::KindShape;
-
-// The bytes, with zeros behind them.
-fn padded(bytes: &[u8]) -> [u8; 1024]
-    requires { length bytes.now ≤ 1024 }
-    ensures full { length result ≡ 1024 }
-    ensures front { take (length bytes.now) result ≡ bytes.now }
-{
-    let mut block = [0; 1024];
-    block[0..bytes.len()].copy_from_slice(bytes);
-    block
-}
+use buffer::buffer::Buffer;
 
 // The program of a block that was read with this outline.
-pub(crate) fn keep(shape: KindShape, outline: Outline, bytes: &[u8]) -> Program
-    requires short { length bytes.now ≤ 1024 }
+pub(crate) fn keep(shape: KindShape, outline: Outline, block: Buffer<1024>) -> Program
     requires wide { 1 ≤ shape.width }
     requires narrow { shape.width ≤ 16 }
     requires some { 1 ≤ outline.header.functions }
     requires few { outline.header.functions ≤ 32 }
     requires rows { length outline.functions ≡ 32 }
-    requires read { outlined shape.width (read_block none_refused shape bytes.now) ≡ Ok outline }
-    ensures block { block_of result ≡ bytes.now }
+    requires read { outlined shape.width (read_block none_refused shape (held_bytes block)) ≡ Ok outline }
+    ensures block { result.block ≡ block }
     ensures shape { result.shape ≡ shape }
 {
     Program {
-        block: padded(bytes),
-        length: bytes.len(),
+        block,
         shape,
         outline,
     }

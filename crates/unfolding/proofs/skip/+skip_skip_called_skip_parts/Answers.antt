@@ -1,18 +1,8 @@
-use Rattle.std.proofs.Common.{ℕ, ◌-◌, sym, ap, ◌∙◌, arith}
-use Rattle.program.specs.Expressions.{Expr}
-use Rattle.program.specs.Measures.{places, places_all}
-use Rattle.program.specs.Programs.{shown}
-use Rattle.unfolding.specs.Unfolding.{listed}
+use Rattle.std.proofs.Common.{sym, ◌∙◌, arith}
 use Rattle.unfolding.specs.Walks.{rows, unfolded_in}
-use Rattle.unfolding.proofs.Near.{split, blank}
+use Rattle.unfolding.proofs.Near.{walked_more}
 use Rattle.unfolding.proofs.Programs.{known_in, near_in, start_small, body_start, body_is}
 use Rattle.unfolding.proofs.skip.+skip_skip_called_skip_parts.Goals as goal
-
-pub skip-returns-in_default : goal.skip-returns-in_default
-skip-returns-in_default t c =
-    let p = c.args.program.now in
-    let e = blank (shown p).shape.width (shown p).block (rows p) c.args.depth c.args.at (sym c.in_default.ensures) in
-    record { end = sym (ap (λ (x : Expr × ℕ). x.1) e); places = sym (ap (λ (x : Expr × ℕ). places x.0) e) }
 
 pub skip-parts_start-requires : goal.skip-parts_start-requires
 skip-parts_start-requires t c = start_small c.args.program.now c.args.at c.in-Some.e c.width.result c.requires.near c.in-Some.ensures c.width.ensures.is
@@ -33,15 +23,6 @@ skip-skip_called-body-requires t c =
     let few = c.requires.few in
     let d = f.count in
     (omega arith, omega arith)
-
-pub skip-overflow_add-result : goal.skip-overflow_add-result
-skip-overflow_add-result t c =
-    let f = known_in c.args.program.now c.args.depth c.args.at c.in-Some.e c.count_parts.result c.parts_start.result c.width.result c.requires.near (omega arith) c.in-Some.ensures c.count_parts.ensures.is c.parts_start.ensures c.width.ensures.is in
-    let few = c.requires.few in
-    let d = f.count in
-    let a = c.skip_parts-end.ensures.places in
-    let b = c.skip_called-body.ensures in
-    record { fits = omega arith }
 
 pub skip-overflow_add-result-2 : goal.skip-overflow_add-result-2
 skip-overflow_add-result-2 t c =
@@ -70,42 +51,8 @@ skip_called-skip-places-requires t c =
     let few = c.requires.few in
     (omega arith, (body_start p c.in-Call.n c.function.result c.function.ensures, omega arith))
 
-pub skip_parts-skip-next-requires : goal.skip_parts-skip-next-requires
-skip_parts-skip-next-requires t c =
-    let s = split (unfolded_in c.args.program.now c.args.depth) c.args.count c.args.at (omega arith) in
-    let m = c.decreases in
-    let d = s.count in
-    let few = c.requires.few in
-    (omega arith, (c.requires.near, omega arith))
-
-pub skip_parts-skip_parts-end-requires : goal.skip_parts-skip_parts-end-requires
-skip_parts-skip_parts-end-requires t c =
-    let p = c.args.program.now in
-    let read = unfolded_in p c.args.depth in
-    let s = split (unfolded_in c.args.program.now c.args.depth) c.args.count c.args.at (omega arith) in
-    let m = c.decreases in
-    let d = s.count in
-    let few = c.requires.few in
+pub skip_parts-loop-preserved : goal.skip_parts-loop-preserved
+skip_parts-loop-preserved t c =
+    let h = near_in c.args.program.now c.args.depth c.loop.end c.loop.invariant.near in
     let e = c.skip-next.ensures.end in
-    let h = near_in p c.args.depth c.args.at c.requires.near in
-    let q = ap (λ n. places_all (listed read (c.args.count - 1) n).0) e in
-    (omega arith, (omega arith, omega arith))
-
-pub skip_parts-overflow_add-result : goal.skip_parts-overflow_add-result
-skip_parts-overflow_add-result t c =
-    let read = unfolded_in c.args.program.now c.args.depth in
-    let s = split (unfolded_in c.args.program.now c.args.depth) c.args.count c.args.at (omega arith) in
-    let d = s.count in
-    let few = c.requires.few in
-    let a = c.skip-next.ensures.places in
-    let b = c.skip_parts-end.ensures.places ∙ ap (λ n. places_all (listed read (c.args.count - 1) n).0) c.skip-next.ensures.end in
-    record { fits = omega arith }
-
-pub skip_parts-returns : goal.skip_parts-returns
-skip_parts-returns t c =
-    let read = unfolded_in c.args.program.now c.args.depth in
-    let s = split (unfolded_in c.args.program.now c.args.depth) c.args.count c.args.at (omega arith) in
-    let d = s.count in
-    let a = c.skip-next.ensures.places in
-    let b = c.skip_parts-end.ensures.places ∙ ap (λ n. places_all (listed read (c.args.count - 1) n).0) c.skip-next.ensures.end in
-    record { end = c.skip_parts-end.ensures.end ∙ ap (λ n. (listed read (c.args.count - 1) n).1) c.skip-next.ensures.end ∙ sym s.end; places = omega arith }
+    record { near = omega arith; walked = walked_more c.loop.invariant.walked _ _ c.loop-test.true e c.skip-next.ensures.places }

@@ -4,8 +4,10 @@ use Rattle.program.specs.Programs.{run_of}
 use Rattle.program.proofs.Shown.{run_within, places_listed, places_few}
 use Rattle.program.proofs.program.Program.places.Goals as goal
 
-pub returns : goal.returns
-returns c =
+pub returns-clause-listed : goal.returns-clause-listed
+returns-clause-listed c = ap (λ (s : Sizes). s.places) c.run_sizes.ensures ∙ places_listed (run_of c.args.self.now)
+
+pub returns-clause-limit : goal.returns-clause-limit
+returns-clause-limit c =
     let p = c.args.self.now in
-    let e = ap (λ (s : Sizes). s.places) c.run_sizes.ensures in
-    record { is = e; listed = e ∙ places_listed (run_of p); limit = omega (arith, e, places_few (run_of p), (run_within p).size) }
+    omega (arith, ap (λ (s : Sizes). s.places) c.run_sizes.ensures, places_few (run_of p), (run_within p).size)

@@ -3,7 +3,5 @@ use Rattle.program.specs.declared.sizes.Sizes.{Sizes}
 use Rattle.program.proofs.Shown.{run_within}
 use Rattle.program.proofs.program.Program.size.Goals as goal
 
-pub returns : goal.returns
-returns c =
-    let e = ap (λ (s : Sizes). s.size) c.run_sizes.ensures in
-    record { is = e; limit = omega (arith, e, (run_within c.args.self.now).size) }
+pub returns-clause-limit : goal.returns-clause-limit
+returns-clause-limit c = omega (arith, ap (λ (s : Sizes). s.size) c.run_sizes.ensures, (run_within c.args.self.now).size)
