@@ -9,6 +9,7 @@ use Rattle.program.specs.Measures.{places}
 use Rattle.unfolding.specs.Unfolding.{named}
 use Rattle.record.specs.Records.{record_at}
 use Rattle.record.specs.declared.record.Body.TheVariants as body
+use Rattle.tree.specs.declared.walk.Stand as walk
 use Rattle.program.specs.declared.function.Function.{Function}
 use Rattle.program.specs.declared.expression.Expression.{Expression}
 use Rattle.program.specs.declared.expression.Expression.TheVariants.{Literal, Variable, Let, Operator, Fold, Exchange, Share, If, Call, Sensor, Link, Own, Choose}
@@ -16,6 +17,10 @@ use Rattle.program.specs.declared.expression.Expression.TheVariants.{Literal, Va
 -- where a walk stands: behind an expression, at a place, at a position of the message
 abbrev pub Stand : Type 0
 Stand = ℕ × ℕ × ℕ
+
+-- what the code's stand stands for
+abbrev pub stand : walk.Stand → Stand
+stand s = (s.at, s.place, s.position)
 
 module _ {V : Type 0} (k : Meaning V) (m : List ℕ) where
   -- the records of an expression, its end given, are read from a place and a position on

@@ -2,10 +2,10 @@ ghost use Rattle.std.specs.Prelude.{◌≡◌};
 ghost use Rattle.refusal.specs.Outcomes.{mapped};
 ghost use Rattle.tree.specs.Trees.{tree_in, sender_of, RoundTrips};
 
-use crate::walk::walk;
+use crate::walk::{Stand, Walk};
 use kind::kind::Kind;
-use program::check::suits;
 use program::program::Program;
+use program::suited::ProgramFor;
 use record::header::{HEADER_LENGTH, read_header};
 use refusal::cause::Cause;
 use refusal::refused::Refusal;
@@ -17,19 +17,19 @@ pub fn read<K: Kind>(program: &Program, node: u16, message: &[u8]) -> Result<u16
     ensures trips { RoundTrips K.Kind.meaning program.now node message.now }
 {
     let number = program.number();
-    if !suits::<K>(program) {
-        return Err(Refusal {
-            cause: Cause::OtherKind,
-            position: 7,
-        });
-    }
+    ProgramFor::<K>::of(program)?;
     let sender = read_header(number, node, message)?;
-    let (start, depth) = run_start(program);
-    let (_, _, end) = walk::<K>(program, message, start, depth, 0, HEADER_LENGTH)?;
-    if end != message.len() {
+    let (at, depth) = run_start(program);
+    let from = Stand {
+        at,
+        place: 0,
+        position: HEADER_LENGTH,
+    };
+    let end = Walk { program, message }.walk::<K>(depth, from)?;
+    if end.position != message.len() {
         return Err(Refusal {
             cause: Cause::MessageLeftover,
-            position: end,
+            position: end.position,
         });
     }
     Ok(sender)

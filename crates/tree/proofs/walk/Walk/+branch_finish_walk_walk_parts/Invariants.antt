@@ -1,5 +1,5 @@
 use Rattle.std.proofs.Common.{◌+◌, ◌*◌}
-use Rattle.tree.proofs.walk.+branch_finish_walk_walk_parts.Given as goal
+use Rattle.tree.proofs.walk.Walk.+branch_finish_walk_walk_parts.Given as goal
 
 abbrev pub decreases-branch : goal.decreases-branch
 decreases-branch g l = 300 * l.depth
