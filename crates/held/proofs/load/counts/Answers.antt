@@ -5,18 +5,18 @@ use Rattle.held.proofs.load.counts.Goals as goal
 pub returns-then-item-width : goal.returns-then-item-width
 returns-then-item-width g c =
     not_held_short g.K.Kind.meaning c.args.program.now c.args.node c.args.sender c.args.item.now g.met.K.Kind.lawful
-    c.value_width-width.result c.value_width-width.ensures.is c.if-item-width.true
+    c.WIDTH-width.result (c.WIDTH-width.ensures ∙ g.met.K.Kind.width_is) c.if-item-width.true
 
 pub returns-in-Ok : goal.returns-in-Ok
 returns-in-Ok g c =
     ap (λ r. is_from r c.args.sender) (sym c.in-Ok.is)
     ∙ held_by_answers g.K.Kind.meaning c.args.program.now c.args.node c.args.sender c.args.item.now
-    c.value_width-width.result c.value_width-width.ensures.is c.requires.suits c.read.result c.read-2.result c.read.ensures c.read-2.ensures.is
+    c.WIDTH-width.result (c.WIDTH-width.ensures ∙ g.met.K.Kind.width_is) c.requires.suits c.read.result c.read-2.result c.read.ensures c.read-2.ensures.is
     (c.is_none.ensures ∙ ap not c.if-is_none.false)
 
 pub returns-in-Err : goal.returns-in-Err
 returns-in-Err g c =
     ap (λ r. is_from r c.args.sender) (sym c.in-Err.is)
     ∙ held_by_answers g.K.Kind.meaning c.args.program.now c.args.node c.args.sender c.args.item.now
-    c.value_width-width.result c.value_width-width.ensures.is c.requires.suits c.read.result c.read-2.result c.read.ensures c.read-2.ensures.is
+    c.WIDTH-width.result (c.WIDTH-width.ensures ∙ g.met.K.Kind.width_is) c.requires.suits c.read.result c.read-2.result c.read.ensures c.read-2.ensures.is
     (c.is_none.ensures ∙ ap not c.if-is_none.false)
