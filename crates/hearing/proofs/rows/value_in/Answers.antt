@@ -11,4 +11,4 @@ returns g c =
     let there = part_within c.min-start.result c.min-size.result c.args.at w bs c.min-start.ensures c.min-size.ensures in
     let read : c.read.result ≡ k.read (part bs c.args.at k.width) =
     c.read.ensures ∙ ap k.read (there ∙ ap (λ (m : ℕ). part bs c.args.at m) (c.WIDTH-width.ensures ∙ g.met.K.Kind.width_is)) in
-    c.unwrap_or.ensures ∙ (λ j. unwrap_or (read j) (c.own_value.ensures j))
+    c.unwrap_or.ensures ∙ (λ j. unwrap_or (read j) ((c.OWN.ensures ∙ g.met.K.Kind.own_is) j))
