@@ -2,7 +2,7 @@
 use Rattle.std.proofs.Common.{◌≡◌, ℕ, zero, suc, ◌+◌, ◌<◌, ◌≤◌, Bool, true, false, cond, ◌≢◌, List, [], ◌∷◌, map, length, get_or, Option, unwrap_or, sym, refl, ap, ◌∙◌, subst, arith, eq-eqb, ne_eqb}
 use Rattle.kind.specs.Kind.{Meaning}
 use Rattle.record.specs.Trees.{Rec, Said, silent, chose, reads, says}
-use Rattle.rules.specs.Rules.{at, elsewhere, Sender, Given, senders, or_else, hears, link_to, links, received}
+use Rattle.rules.specs.Rules.{at, Sender, Given, senders, or_else, hears, link_to, links, received}
 use Rattle.rules.specs.Laws.{Apart, from, Orderly}
 use Rattle.cursor.specs.Cursors.{Readable, Stands, said_value}
 use Rattle.hearing.specs.declared.inputs.Inputs.{Inputs}
@@ -16,11 +16,6 @@ module _ {V : Type 0} where
   apart_at n [] a j d h = absurd (omega (arith, h))
   apart_at n (s ∷ ss) (from ne a) zero d h = ne
   apart_at n (s ∷ ss) (from ne a) (suc j) d h = apart_at n ss a j d (omega (arith, h))
-
-  spot_in : (ss : List (Sender V)) (j : ℕ) (d : Sender V) → j < length ss → get_or (map at (senders ss)) j elsewhere ≡ at (get_or ss j d).number
-  spot_in [] j d h = absurd (omega (arith, h))
-  spot_in (s ∷ ss) zero d h = refl
-  spot_in (s ∷ ss) (suc j) d h = spot_in ss j d (omega (arith, h))
 
   long_spots : (ss : List (Sender V)) → length (map at (senders ss)) ≡ length ss
   long_spots [] = refl

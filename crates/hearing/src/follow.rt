@@ -23,6 +23,7 @@ pub fn begin<K: Kind>() -> Cursors
 pub fn advance<K: Kind>(x: &Inputs<'_>, cursors: &mut Cursors, place: usize)
     ensures { (g : Given (K.Value)) (low : ℕ) → Gives K.Kind.meaning x.now g → Standing K.Kind.meaning x.now g low cursors.old → low ≤ place → Standing K.Kind.meaning x.now g place cursors.new }
 {
+    // In a copy: a part of an array in a struct with a ghost field is not lent.
     let mut senders = cursors.senders;
     for (j, at) in senders[..x.slots.count].iter_mut().enumerate() {
         *at = seek::<K>(x.tree::<K>(j), *at, place);
