@@ -3,9 +3,6 @@ use Rattle.std.proofs.lemmas.List.{length-take-le, get_or-take}
 use Rattle.hearing.proofs.Following.{each_more, Moves, moves_on, all_moved}
 use Rattle.hearing.proofs.follow.advance.Goals as goal
 
-pub loop-j-init : goal.loop-j-init
-loop-j-init g c = record { moved = λ i h. absurd (omega arith); left = λ i h. refl }
-
 pub loop-j-preserved : goal.loop-j-preserved
 loop-j-preserved g c =
     let x = c.args.x.now in

@@ -3,9 +3,6 @@ use Rattle.hearing.proofs.Following.{each_more}
 use Rattle.hearing.proofs.Laying.{all_laid, senders_long}
 use Rattle.hearing.proofs.rows.lay.Goals as goal
 
-pub loop-j-init : goal.loop-j-init
-loop-j-init g c = λ i d h. absurd (omega arith)
-
 pub loop-j-preserved : goal.loop-j-preserved
 loop-j-preserved g c = λ i d h.
     each_more (goal.F-post g c.args.sender) d c.loop-j.cell-items c.loop-j.j c.sender.result (omega arith) (λ k. c.loop-j.invariant k d) c.sender.ensures i h
