@@ -1,17 +1,22 @@
 use Rattle.std.proofs.Common.{◌≡◌, ◌<◌, length, Err, sym, refl, ap, ◌∙◌, subst}
 use Rattle.std.proofs.lemmas.Result.{err_from_is_err_and}
+use Rattle.std.specs.Option.{is_some}
 use Rattle.inbox.specs.Contents.{Contents, holding, longest_item}
 use Rattle.inbox.specs.Calls.{put_checked, holds, with_item, new_item, put_answer, put_so}
 use Rattle.refusal.specs.declared.refused.Refusal.{Refusal}
 use Rattle.slot_inbox.specs.SlotInbox.{contents, slot_inbox_lawful}
 use Rattle.inbox.proofs.Items.{Admitted, admitted, free_without, when_refused, put_checked_slots}
+use Rattle.slot_inbox.proofs.Gathers.{holds_place}
 use Rattle.slot_inbox.proofs.slot_inbox.calls.SlotInboxInbox.put.Goals as goal
 use Rattle.slot_inbox.proofs.slot_inbox.calls.SlotInboxInbox.put.Goals.{After-check_put}
+
+held : (c : goal.After-check_put) → c.is_some-held.result ≡ holds (contents c.args.self.now).items c.args.sender
+held c = c.is_some-held.ensures ∙ ap is_some c.place.ensures ∙ sym (holds_place c.args.self.now.slots c.args.sender)
 
 answer : (c : goal.After-check_put) → c.check_put.result ≡ put_answer (contents c.args.self.now) c.args.sender c.args.item.now
 answer c =
     let p = c.args.self.now in
-    c.check_put.ensures ∙ (λ i. put_checked (length c.args.item.now) (c.held-held.ensures i) (c.count-count.ensures i) (c.sender_limit-sender_limit.ensures i) 0 longest_item) ∙ put_checked_slots (contents p) c.args.sender c.args.item.now (slot_inbox_lawful p) refl
+    c.check_put.ensures ∙ (λ i. put_checked (length c.args.item.now) (held c i) (c.count-count.ensures i) (c.sender_limit-sender_limit.ensures i) 0 longest_item) ∙ put_checked_slots (contents p) c.args.sender c.args.item.now (slot_inbox_lawful p) refl
 
 pub returns-in_err-check_put : goal.returns-in_err-check_put
 returns-in_err-check_put c =
