@@ -481,3 +481,9 @@ put_checked_slots b s x ok r = ⊎_elim
 pub when_refused : {A P : Type 0} (r : Outcome A) → P → IfRefused r P
 when_refused (Ok _) h = tt
 when_refused (Err _) h = h
+
+-- the item of a sender, at its index
+pub finds_at : (is : List Item) (s i : ℕ) (d : Item) → Rising is → i < length is → (get_or is i d).sender ≡ s → Finds is s (Some i)
+finds_at is s i d rises h here =
+    let low = rising_below (take i is) (drop (suc i) is) (get_or is i d) (subst Rising (split_row is i d h) rises) in
+    finds_some is s i d rises h (All-weaker (λ x. x.sender < (get_or is i d).sender) (λ x. x.sender ≡ s → ⊥) (λ x l e. omega arith) (take i is) low) here

@@ -8,14 +8,17 @@ use Rattle.packed_inbox.specs.PackedInbox.{lent, contents}
 use Rattle.inbox.proofs.Items.{Admitted, admitted, free_without, when_refused, bytes_held_with}
 use Rattle.packed_inbox.specs.LentMemory.{laid_in}
 use Rattle.packed_inbox.proofs.LaidIn.{laid_twice}
-use Rattle.packed_inbox.proofs.PackedFacts.{length_items, laid_as_it_stood}
+use Rattle.packed_inbox.proofs.PackedFacts.{length_items, held_found, laid_as_it_stood}
 use Rattle.packed_inbox.proofs.packed_inbox.calls.PackedInboxInbox.put.Goals as goal
 use Rattle.packed_inbox.proofs.packed_inbox.calls.PackedInboxInbox.put.Goals.{After-check_put}
+
+held : (c : goal.After-check_put) → c.is_some-held.result ≡ holds (contents c.args.self.now).items c.args.sender
+held c = c.is_some-held.ensures ∙ sym (held_found (contents c.args.self.now).items c.args.sender c.find.result c.find.ensures)
 
 answer : (c : goal.After-check_put) → c.check_put.result ≡ put_answer (contents c.args.self.now) c.args.sender c.args.item.now
 answer c =
     let p = c.args.self.now in
-    c.check_put.ensures ∙ (λ i. put_checked (length c.args.item.now) (c.held-held.ensures i) (sym (length_items p) i) (c.sender_limit-sender_limit.ensures i) (c.others-others.ensures i) (c.size-byte_limit.ensures i))
+    c.check_put.ensures ∙ (λ i. put_checked (length c.args.item.now) (held c i) ((c.len-count.ensures.value ∙ sym (length_items p)) i) (c.sender_limit-sender_limit.ensures i) (c.others-others.ensures i) (c.size-byte_limit.ensures i))
 
 pub returns-in_err-check_put : goal.returns-in_err-check_put
 returns-in_err-check_put c =
@@ -25,8 +28,7 @@ returns-in_err-check_put c =
       value = v;
       after = sym (ap (λ r. put_so r (contents c.args.self.now) c.args.sender c.args.item.now) (sym v ∙ p.1));
       untouched = when_refused c.from_residual.result refl;
-      memory = laid_as_it_stood c.args.self.now;
-      lender = refl;
+      memory = record { lender = refl; after = laid_as_it_stood c.args.self.now };
     }
 
 pub insert-requires : goal.insert-requires
@@ -58,7 +60,9 @@ returns c =
       after = c.insert.ensures.after ∙ ap (λ (b : Contents). holding b (with_item b.items (new_item s x))) c.remove.ensures.after
           ∙ sym (ap (λ r. put_so r (contents p) s x) k);
       untouched = tt;
-      memory = c.insert.ensures.memory ∙ ap (laid_in js) c.remove.ensures.memory ∙ laid_twice is js (lent p) (omega arith)
-          ∙ sym (ap (λ (b : Contents). laid_in b.items (lent p)) c.insert.ensures.after);
-      lender = c.insert.ensures.lender ∙ c.remove.ensures.lender;
+      memory = record {
+        lender = c.insert.ensures.memory.lender ∙ c.remove.ensures.memory.lender;
+        after = c.insert.ensures.memory.after ∙ ap (laid_in js) c.remove.ensures.memory.after ∙ laid_twice is js (lent p) (omega arith)
+            ∙ sym (ap (λ (b : Contents). laid_in b.items (lent p)) c.insert.ensures.after);
+      };
     }
