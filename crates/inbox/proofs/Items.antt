@@ -167,19 +167,6 @@ finds_none is s h = record { free = holds_apart is s h; same = without_apart is 
 pub below_more : (s : ℕ) (is : List Item) (i : ℕ) (d : Item) → i < length is → Below s (take i is) → (get_or is i d).sender < s → Below s (take (i + 1) is)
 below_more s is i d h low here = All-more (λ x. x.sender < s) is i d h low here
 
-pub bound_here : (is : List Item) (s i : ℕ) (d : Item) → Rising is → i < length is → Below s (take i is) → s ≤ (get_or is i d).sender → LowerBound is s i
-bound_here is s i d rises h low here =
-    let up = rising_above (take i is) (drop (suc i) is) (get_or is i d) (subst Rising (split_row is i d h) rises) in
-    record {
-      in_range = omega arith;
-      below = low;
-      above = subst (AllByRecursion (λ x. s ≤ x.sender)) (sym (drop_more is i d h ∙ ap (λ n. get_or is i d ∷ drop n is) (add-one i)))
-          (here, All-weaker (λ x. (get_or is i d).sender < x.sender) (λ x. s ≤ x.sender) (λ x l. omega arith) (drop (suc i) is) up);
-    }
-
-pub bound_end : (is : List Item) (s i : ℕ) → length is ≡ i → Below s (take i is) → LowerBound is s i
-bound_end is s i e low = record { in_range = omega arith; below = low; above = subst (AllByRecursion (λ x. s ≤ x.sender)) (sym (drop_all i is (omega arith))) tt }
-
 -- ---- a new item at its lower bound
 module _ (is : List Item) (s i : ℕ) (here : LowerBound is s i) (free : holds is s ≡ false) where
   pub bound_above : Above s (drop i is)
@@ -219,15 +206,9 @@ lawful_older b i h l young =
     subst (λ is. Lawful (holding b is)) (sym (set_split b.items i (older x) l))
     (lawful_with b p q (older x) (lawful_cut b p q x s) (rising_below p q x s.rising) (rising_above p q x s.rising) (all_here (λ j. j.sender < 65536) p q x s.numbers) (omega arith) fit young (omega arith))
 
-pub apart_more : (s : ℕ) (is : List Item) (i : ℕ) (d : Item) → i < length is → Apart s (take i is) → ((get_or is i d).sender ≡ s → ⊥) → Apart s (take (i + 1) is)
-apart_more s is i d h low here = All-more (λ x. x.sender ≡ s → ⊥) is i d h low here
-
 pub bytes_held_le : (is : List Item) → AllByRecursion (λ i. length i.bytes ≤ longest_item) is → bytes_held is ≤ longest_item * length is
 bytes_held_le [] h = omega arith
 bytes_held_le (i ∷ is) h = let a = h.0 in omega (arith, bytes_held_le is h.1)
-
-pub bytes_held_removed : (is : List Item) (i : ℕ) (d : Item) → i < length is → bytes_held (remove is i) + length (get_or is i d).bytes ≡ bytes_held is
-bytes_held_removed is i d h = sym (ap bytes_held (split_row is i d h) ∙ bytes_held_split (take i is) (drop (suc i) is) (get_or is i d))
 
 pub next_some : (is : List Item) (k i : ℕ) (d : Item) → LowerBound is k i → i < length is → next_sender is k ≡ Some (get_or is i d).sender
 next_some is k i d here h =

@@ -12,13 +12,7 @@ impl Limits {
     pub fn check(senders: usize, life: usize) -> Result<Limits, Refusal>
         ensures { mapped pair result ≡ limits_checked senders life }
     {
-        if senders < 1 || senders > MOST_SENDERS {
-            return Err(Refusal {
-                cause: Cause::LimitRefused,
-                position: 0,
-            });
-        }
-        if life < 1 || life > LONGEST_LIFE {
+        if !(1..=MOST_SENDERS).contains(&senders) || !(1..=LONGEST_LIFE).contains(&life) {
             return Err(Refusal {
                 cause: Cause::LimitRefused,
                 position: 0,

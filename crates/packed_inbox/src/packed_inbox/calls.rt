@@ -4,9 +4,9 @@ ghost use Rattle.packed_inbox.specs.PackedInbox.{lent, contents, packed_inbox_la
 ghost use Rattle.packed_inbox.specs.LentMemory.{Rewrites, laid_in, memory_after_passing};
 
 use super::PackedInbox;
-use inbox::check_put::check_put;
 use inbox::inbox::Inbox;
 use inbox::limits::LONGEST_ITEM;
+use inbox::room::Room;
 use refusal::cause::Cause;
 use refusal::refused::Refusal;
 
@@ -21,12 +21,14 @@ impl<'a> Inbox for PackedInbox<'a> {
         ensures untouched { IfRefused result (self.new ≡ self.old) }
         ensures memory { Rewrites self.old.memory self.new.memory (laid_in (contents self.new).items (lent self.old)) }
     {
-        let held = self.find(sender).is_some();
-        let count = self.table.len();
-        let sender_limit = self.limits.sender_limit();
-        let others = self.others(sender);
-        let byte_limit = self.memory.size();
-        check_put(item.len(), held, count, sender_limit, others, byte_limit)?;
+        let room = Room {
+            held: self.find(sender).is_some(),
+            count: self.table.len(),
+            sender_limit: self.limits.sender_limit(),
+            others: self.others(sender),
+            byte_limit: self.memory.size(),
+        };
+        room.check(item.len())?;
         let _ = self.remove(sender);
         self.insert(sender, item);
         Ok(())

@@ -2,9 +2,9 @@ ghost use Rattle.slot_inbox.specs.SlotInbox.{contents, slot_inbox_lawful};
 
 use super::SlotInbox;
 use crate::slot;
-use inbox::check_put::check_put;
 use inbox::inbox::Inbox;
 use inbox::limits::LONGEST_ITEM;
+use inbox::room::Room;
 use refusal::cause::Cause;
 use refusal::refused::Refusal;
 
@@ -14,11 +14,15 @@ impl Inbox for SlotInbox {
     ghost lawful = { slot_inbox_lawful };
 
     fn put(&mut self, sender: u16, item: &[u8]) -> Result<(), Refusal> {
-        let held = self.place(sender).is_some();
-        let count = self.count();
-        let sender_limit = self.limits.sender_limit();
         // Each sender has room for the longest item, whatever the others have.
-        check_put(item.len(), held, count, sender_limit, 0, LONGEST_ITEM)?;
+        let room = Room {
+            held: self.place(sender).is_some(),
+            count: self.count(),
+            sender_limit: self.limits.sender_limit(),
+            others: 0,
+            byte_limit: LONGEST_ITEM,
+        };
+        room.check(item.len())?;
         let _ = self.remove(sender);
         self.insert(sender, item);
         Ok(())

@@ -10,20 +10,20 @@ use Rattle.packed_inbox.specs.LentMemory.{laid_in}
 use Rattle.packed_inbox.proofs.LaidIn.{laid_twice}
 use Rattle.packed_inbox.proofs.PackedFacts.{length_items, held_found, laid_as_it_stood}
 use Rattle.packed_inbox.proofs.packed_inbox.calls.PackedInboxInbox.put.Goals as goal
-use Rattle.packed_inbox.proofs.packed_inbox.calls.PackedInboxInbox.put.Goals.{After-check_put}
+use Rattle.packed_inbox.proofs.packed_inbox.calls.PackedInboxInbox.put.Goals.{After-check}
 
-held : (c : goal.After-check_put) → c.is_some-held.result ≡ holds (contents c.args.self.now).items c.args.sender
-held c = c.is_some-held.ensures ∙ sym (held_found (contents c.args.self.now).items c.args.sender c.find.result c.find.ensures)
+held : (c : goal.After-check) → c.is_some.result ≡ holds (contents c.args.self.now).items c.args.sender
+held c = c.is_some.ensures ∙ sym (held_found (contents c.args.self.now).items c.args.sender c.find.result c.find.ensures)
 
-answer : (c : goal.After-check_put) → c.check_put.result ≡ put_answer (contents c.args.self.now) c.args.sender c.args.item.now
+answer : (c : goal.After-check) → c.check.result ≡ put_answer (contents c.args.self.now) c.args.sender c.args.item.now
 answer c =
     let p = c.args.self.now in
-    c.check_put.ensures ∙ (λ i. put_checked (length c.args.item.now) (held c i) ((c.len-count.ensures.value ∙ sym (length_items p)) i) (c.sender_limit-sender_limit.ensures i) (c.others-others.ensures i) (c.size-byte_limit.ensures i))
+    c.check.ensures ∙ (λ i. put_checked (length c.args.item.now) (held c i) ((c.len.ensures.value ∙ sym (length_items p)) i) (c.sender_limit.ensures i) (c.others.ensures i) (c.size.ensures i))
 
-pub returns-in_err-check_put : goal.returns-in_err-check_put
-returns-in_err-check_put c =
+pub returns-in_err-check : goal.returns-in_err-check
+returns-in_err-check c =
     let p = err_from_is_err_and c.from_residual.result c.from_residual.ensures.1 in
-    let v = p.1 ∙ ap (λ (e : Refusal). Err e) p.2 ∙ sym c.in_err-check_put.was ∙ answer (goal.at.returns-in_err-check_put c).After-check_put in
+    let v = p.1 ∙ ap (λ (e : Refusal). Err e) p.2 ∙ sym c.in_err-check.was ∙ answer (goal.at.returns-in_err-check c).After-check in
     record {
       value = v;
       after = sym (ap (λ r. put_so r (contents c.args.self.now) c.args.sender c.args.item.now) (sym v ∙ p.1));
@@ -37,7 +37,7 @@ insert-requires c =
     let s = c.args.sender in
     let x = c.args.item.now in
     let gone = c.remove.ensures.after in
-    let a : Admitted (contents p) s x = admitted (contents p) s x (lawful_of (contents p) p.lawful) (sym (answer (goal.at.insert-requires c).After-check_put) ∙ c.in_ok-check_put.was) in
+    let a : Admitted (contents p) s x = admitted (contents p) s x (lawful_of (contents p) p.lawful) (sym (answer (goal.at.insert-requires c).After-check) ∙ c.in_ok-check.was) in
     record {
       free = ap (λ (b : Contents). holds b.items s) gone ∙ free_without (contents p).items s;
       few = subst (λ (b : Contents). length b.items < b.sender_limit) (sym gone) a.few;
@@ -50,7 +50,7 @@ returns c =
     let p = c.args.self.now in
     let s = c.args.sender in
     let x = c.args.item.now in
-    let k = sym (answer (goal.at.returns c).After-check_put) ∙ c.in_ok-check_put.was in
+    let k = sym (answer (goal.at.returns c).After-check) ∙ c.in_ok-check.was in
     let q = c.remove.new.self in
     let is = (contents q).items in
     let js = with_item is (new_item s x) in
