@@ -1,5 +1,5 @@
 ghost use Rattle.std.specs.Prelude.{◌≡◌};
-ghost use Rattle.inbox.specs.Calls.{put_checked};
+ghost use Rattle.inbox.specs.Calls.{put_checked, buffer_checked};
 
 use crate::limits::LONGEST_ITEM;
 use refusal::cause::Cause;
@@ -45,4 +45,17 @@ impl Room {
         }
         Ok(())
     }
+}
+
+/// Whether any item fits a buffer of so many bytes.
+pub fn check_buffer(len: usize) -> Result<(), Refusal>
+    ensures { result ≡ buffer_checked len }
+{
+    if len < LONGEST_ITEM {
+        return Err(Refusal {
+            cause: Cause::BufferShort,
+            position: 0,
+        });
+    }
+    Ok(())
 }

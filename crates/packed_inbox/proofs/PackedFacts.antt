@@ -3,7 +3,7 @@ use Rattle.std.proofs.Common.{◌≡◌, ℕ, ◌+◌, ◌-◌, ◌<◌, ◌≤�
 use Rattle.std.proofs.lemmas.List.Edits.{length-paste}
 use Rattle.std.proofs.lemmas.List.{length-take, length-drop}
 use Rattle.std.proofs.lemmas.List.Sorted.{searchable_from_sorted, IsNonDecreasingBy-from_all_adjacent}
-use Rattle.std.proofs.lemmas.Cmp.{nat_cmp_total}
+use Rattle.std.proofs.lemmas.Cmp.{nat_cmp_total, ranked}
 use Rattle.std.proofs.lemmas.Bool.{lt-ltb, cases_lt, ltb-true, ltb-false}
 use Rattle.std.proofs.lemmas.Bool.Decides.{nat_tests}
 use Rattle.std.specs.List.{remove, insert, slice_get}
@@ -172,27 +172,18 @@ rows_step p k d h = rw add-one (rising_rows (rows p) (lent p) (lawful_of (conten
 pub rows_rise : (p : PackedInbox) → IsNonDecreasingBy sender (rows p)
 rows_rise p = IsNonDecreasingBy-from_all_adjacent sender (rows p) (λ k d h. let l = rows_step p k d h in omega arith)
 
-equal_is : (x y : ℕ) → nat_cmp x y ≡ Equal → x ≡ y
-equal_is x y h = grind (arith, nat_tests)
-
-less_is : (x y : ℕ) → nat_cmp x y ≡ Less → x < y
-less_is x y h = grind (arith, nat_tests)
-
-greater_is : (x y : ℕ) → nat_cmp x y ≡ Greater → y < x
-greater_is x y h = grind (arith, nat_tests)
-
 not_less : (x y : ℕ) → x < y → is_lt (nat_cmp y x) ≡ false
 not_less x y h = grind (arith, nat_tests)
 
 -- what a binary search for the sender finds
 pub found : (p : PackedInbox) (s : ℕ) (r : Result ℕ ℕ) → IsSearchInRange r (length (rows p)) → IsBinarySearchResult (λ e. nat_cmp (sender e) s) (rows p) r → Finds (contents p).items s (result_ok r)
 found p s (Ok i) h f = finds_at (contents p).items s i no_item (lawful_of (contents p) p.lawful).rising (omega (arith, length_items p))
-    (ap (λ (x : Item). x.sender) (item_at p i no_item blank h) ∙ equal_is (sender (get_or (rows p) i blank)) s (f blank))
+    (ap (λ (x : Item). x.sender) (item_at p i no_item blank h) ∙ ranked (sender (get_or (rows p) i blank)) s Equal (sym (f blank)))
 found p s (Err i) h f =
     let k = f (searchable_from_sorted nat_cmp_total sender (rows p) s (λ k d _ l. not_less (sender (get_or (rows p) k d)) (sender (get_or (rows p) (k + 1) d)) (rows_step p k d l))) in
     finds_none (contents p).items s (none_of (rows p) (lent p) s (λ j d l e. ⊎_elim
-    (λ (b : j < i). let m = less_is (sender (get_or (rows p) j d)) s (k.0 j d (omega arith) b) in let z : ⊥ = omega arith in z)
-    (λ (b : i ≤ j). let m = greater_is (sender (get_or (rows p) j d)) s (k.1 j d b l) in let z : ⊥ = omega arith in z)
+    (λ (b : j < i). let m = ranked (sender (get_or (rows p) j d)) s Less (sym (k.0 j d (omega arith) b)) in let z : ⊥ = omega arith in z)
+    (λ (b : i ≤ j). let m = ranked (sender (get_or (rows p) j d)) s Greater (sym (k.1 j d b l)) in let z : ⊥ = omega arith in z)
     (cases_lt j i)))
 
 -- the row at the bound has the next sender

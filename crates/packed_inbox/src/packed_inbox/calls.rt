@@ -5,9 +5,7 @@ ghost use Rattle.packed_inbox.specs.LentMemory.{Rewrites, laid_in, memory_after_
 
 use super::PackedInbox;
 use inbox::inbox::Inbox;
-use inbox::limits::LONGEST_ITEM;
-use inbox::room::Room;
-use refusal::cause::Cause;
+use inbox::room::{Room, check_buffer};
 use refusal::refused::Refusal;
 
 impl<'a> Inbox for PackedInbox<'a> {
@@ -55,12 +53,7 @@ impl<'a> Inbox for PackedInbox<'a> {
     }
 
     fn read(&self, sender: u16, buffer: &mut [u8]) -> Result<Option<usize>, Refusal> {
-        if buffer.len() < LONGEST_ITEM {
-            return Err(Refusal {
-                cause: Cause::BufferShort,
-                position: 0,
-            });
-        }
+        check_buffer(buffer.len())?;
         match self.find(sender) {
             Some(at) => {
                 let from = self.offset(at);

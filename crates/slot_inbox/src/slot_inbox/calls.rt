@@ -4,8 +4,7 @@ use super::SlotInbox;
 use crate::slot;
 use inbox::inbox::Inbox;
 use inbox::limits::LONGEST_ITEM;
-use inbox::room::Room;
-use refusal::cause::Cause;
+use inbox::room::{Room, check_buffer};
 use refusal::refused::Refusal;
 
 impl Inbox for SlotInbox {
@@ -48,12 +47,7 @@ impl Inbox for SlotInbox {
     }
 
     fn read(&self, sender: u16, buffer: &mut [u8]) -> Result<Option<usize>, Refusal> {
-        if buffer.len() < LONGEST_ITEM {
-            return Err(Refusal {
-                cause: Cause::BufferShort,
-                position: 0,
-            });
-        }
+        check_buffer(buffer.len())?;
         match self.find(sender) {
             Some(slot) => Ok(Some(slot.read(buffer))),
             None => Ok(None),

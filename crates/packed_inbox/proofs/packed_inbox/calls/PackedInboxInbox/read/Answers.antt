@@ -1,11 +1,10 @@
-use Rattle.std.proofs.Common.{◌≡◌, ℕ, ◌<◌, ◌≤◌, false, ltb, List, ◌++◌, length, get_or, take, drop, Some, Ok, Option, sym, ap, ◌∙◌, arith}
-use Rattle.refusal.specs.declared.cause.Cause.TheVariants.{BufferShort}
-use Rattle.refusal.specs.Outcomes.{refuse}
-use Rattle.std.proofs.lemmas.Bool.{le-ltb, cond-false}
+use Rattle.std.proofs.Common.{◌≡◌, ℕ, ◌<◌, ◌≤◌, List, ◌++◌, length, get_or, take, drop, Some, None, Ok, Err, sym, ap, ◌∙◌, arith}
+use Rattle.refusal.specs.declared.refused.Refusal.{Refusal}
+use Rattle.std.proofs.lemmas.Result.{err_from_is_err_and}
 use Rattle.std.proofs.ByRecursion.{All-get_or}
 use Rattle.inbox.specs.Contents.{Item, longest_item}
 use Rattle.inbox.specs.Search.{Finding, no_item}
-use Rattle.inbox.specs.Calls.{found_length, at_front, bytes_of}
+use Rattle.inbox.proofs.Items.{any_fits, read_refused, read_taken}
 use Rattle.inbox.specs.Law.{lawful_of}
 use Rattle.packed_inbox.specs.PackedInbox.{rows, lent, contents}
 use Rattle.packed_inbox.specs.declared.row.Row.{Row}
@@ -34,26 +33,31 @@ read-requires c =
     let s = p.spans in
     let l = length_at p at no_item w in
     let f : length (get_or (contents p).items at no_item).bytes ≤ longest_item = All-get_or (λ (i : Item). length i.bytes ≤ longest_item) (contents p).items at no_item c.in-Some.ensures.in_range (lawful_of (contents p) p.lawful).fits in
+    let b = any_fits (length c.args.buffer.now) (sym c.check_buffer.ensures ∙ c.in_ok-check_buffer.was) in
     rw c.deref.ensures.0 (omega arith, omega arith)
+
+pub returns-in_err-check_buffer : goal.returns-in_err-check_buffer
+returns-in_err-check_buffer c =
+    let p = err_from_is_err_and c.from_residual.result c.from_residual.ensures.1 in
+    let k = read_refused (contents c.args.self.now) c.args.sender c.args.buffer.now p.0 (sym c.check_buffer.ensures ∙ c.in_err-check_buffer.was ∙ ap (λ (e : Refusal). Err e) (sym p.2)) in
+    record { value = p.1 ∙ k.0; after = k.1 }
 
 pub returns-in-Some : goal.returns-in-Some
 returns-in-Some c =
     let p = c.args.self.now in
     let at = c.in-Some.at in
     let w = in_rows p c.args.sender at c.in-Some.ensures in
-    let buf = c.args.buffer.now in
-    let t : ltb (length buf) longest_item ≡ false = le-ltb (length buf) longest_item (omega arith) in
-    let f = c.in-Some.ensures.read no_item in
+    let buffer = c.args.buffer.now in
     let len = (get_or c.deref.result.now at blank).len in
     let e : (get_or (rows p) at blank).len ≡ len = ap (λ (es : List Row). (get_or es at blank).len) (sym c.deref.ensures.0) in
     let l : length (get_or (contents p).items at no_item).bytes ≡ len = length_at p at no_item w ∙ e in
     let x : (get_or (contents p).items at no_item).bytes ≡ take len (drop c.offset-from.result (lent p)) =
     bytes_at p at no_item w ∙ (λ i. take (e i) (drop (sym c.offset-from.ensures i) (lent p))) in
+    let k = read_taken (contents p) c.args.sender buffer (Some (get_or (contents p).items at no_item).bytes) (c.in-Some.ensures.read no_item) (sym c.check_buffer.ensures ∙ c.in_ok-check_buffer.was) in
     record {
-      value = sym (cond-false (ltb (length buf) longest_item) (refuse BufferShort 0) (Ok (found_length (bytes_of (contents p).items c.args.sender))) t
-          ∙ ap (λ (o : Option (List ℕ)). Ok (found_length o)) f ∙ ap (λ (n : ℕ). Ok (Some n)) l);
-      after = c.read.ensures.after
-          ∙ sym (cond-false (ltb (length buf) longest_item) buf (at_front (bytes_of (contents p).items c.args.sender) buf) t
-          ∙ ap (λ (o : Option (List ℕ)). at_front o buf) f
-          ∙ (λ i. x i ++ drop (l i) buf));
+      value = ap (λ (n : ℕ). Ok (Some n)) (sym l) ∙ k.0;
+      after = c.read.ensures.after ∙ (λ i. sym x i ++ drop (sym l i) buffer) ∙ k.1;
     }
+
+pub returns-in-None : goal.returns-in-None
+returns-in-None c = let k = read_taken (contents c.args.self.now) c.args.sender c.args.buffer.now None c.in-None.ensures.none (sym c.check_buffer.ensures ∙ c.in_ok-check_buffer.was) in record { value = k.0; after = k.1 }
