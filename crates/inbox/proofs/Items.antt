@@ -1,14 +1,15 @@
 -- Laws of what the calls of an inbox give.
-use Rattle.std.proofs.Common.{◌≡◌, ℕ, suc, ◌+◌, ◌*◌, ◌<◌, ◌≤◌, Bool, true, false, cond, not, ◌&&◌, eqb, ltb, leb, List, [], ◌∷◌, ◌++◌, length, get_or, take, drop, set, Some, None, Ok, Err, sym, refl, ap, ◌∙◌, subst, ⊎_elim, add-one, arith}
-use Rattle.refusal.specs.declared.cause.Cause.TheVariants.{ItemTooLong, SendersFull, BytesFull}
-use Rattle.refusal.specs.Outcomes.{Outcome, refuse}
+use Rattle.std.proofs.Common.{◌≡◌, ℕ, suc, ◌+◌, ◌*◌, ◌<◌, ◌≤◌, Bool, true, false, cond, not, ◌&&◌, eqb, ltb, leb, List, [], ◌∷◌, ◌++◌, length, get_or, take, drop, set, Some, None, Option, Ok, Err, sym, refl, ap, ◌∙◌, subst, ⊎_elim, add-one, arith}
+use Rattle.refusal.specs.declared.cause.Cause.TheVariants.{ItemTooLong, SendersFull, BytesFull, BufferShort}
+use Rattle.refusal.specs.Outcomes.{Outcome, refuse, refusal}
+use Rattle.refusal.specs.declared.refused.Refusal.{Refusal}
 use Rattle.std.specs.List.{AllByRecursion, remove, insert}
 use Rattle.std.proofs.ByRecursion.{All-weaker, All-more, All-drop}
 use Rattle.std.proofs.lemmas.Bool.{lt-ltb, le-ltb, ne_eqb, eq-eqb, eqb-false, cases_Bool, true≢false, false≢true, cases_lt, ltb-false, leb-false, and_cases, not-false, cond-false}
 use Rattle.std.proofs.lemmas.List.{take-append-drop, drop_more, drop_all, get_or_default, set_split, take_more_set, drop-set-lt, append_assoc, append-nil, take_at, drop_at, take_all, length-take-le}
 use native.Mathlib.Numerals.{lt_of_le_of_ne}
 use Rattle.inbox.specs.Contents.{Item, Contents, Rising, Lawful, lasts, bytes_held, holding, longest_item}
-use Rattle.inbox.specs.Calls.{IfRefused, holds, without, with_item, next_sender, bytes_of, aged, put_answer, put_checked, older}
+use Rattle.inbox.specs.Calls.{IfRefused, holds, without, with_item, next_sender, bytes_of, buffer_checked, read_answer, buffer_after_read, found_length, at_front, aged, put_answer, put_checked, older}
 use Rattle.inbox.specs.Search.{LowerBound, Finds, no_item}
 
 -- all senders are below s, and all are above s
@@ -167,19 +168,6 @@ finds_none is s h = record { free = holds_apart is s h; same = without_apart is 
 pub below_more : (s : ℕ) (is : List Item) (i : ℕ) (d : Item) → i < length is → Below s (take i is) → (get_or is i d).sender < s → Below s (take (i + 1) is)
 below_more s is i d h low here = All-more (λ x. x.sender < s) is i d h low here
 
-pub bound_here : (is : List Item) (s i : ℕ) (d : Item) → Rising is → i < length is → Below s (take i is) → s ≤ (get_or is i d).sender → LowerBound is s i
-bound_here is s i d rises h low here =
-    let up = rising_above (take i is) (drop (suc i) is) (get_or is i d) (subst Rising (split_row is i d h) rises) in
-    record {
-      in_range = omega arith;
-      below = low;
-      above = subst (AllByRecursion (λ x. s ≤ x.sender)) (sym (drop_more is i d h ∙ ap (λ n. get_or is i d ∷ drop n is) (add-one i)))
-          (here, All-weaker (λ x. (get_or is i d).sender < x.sender) (λ x. s ≤ x.sender) (λ x l. omega arith) (drop (suc i) is) up);
-    }
-
-pub bound_end : (is : List Item) (s i : ℕ) → length is ≡ i → Below s (take i is) → LowerBound is s i
-bound_end is s i e low = record { in_range = omega arith; below = low; above = subst (AllByRecursion (λ x. s ≤ x.sender)) (sym (drop_all i is (omega arith))) tt }
-
 -- ---- a new item at its lower bound
 module _ (is : List Item) (s i : ℕ) (here : LowerBound is s i) (free : holds is s ≡ false) where
   pub bound_above : Above s (drop i is)
@@ -219,15 +207,9 @@ lawful_older b i h l young =
     subst (λ is. Lawful (holding b is)) (sym (set_split b.items i (older x) l))
     (lawful_with b p q (older x) (lawful_cut b p q x s) (rising_below p q x s.rising) (rising_above p q x s.rising) (all_here (λ j. j.sender < 65536) p q x s.numbers) (omega arith) fit young (omega arith))
 
-pub apart_more : (s : ℕ) (is : List Item) (i : ℕ) (d : Item) → i < length is → Apart s (take i is) → ((get_or is i d).sender ≡ s → ⊥) → Apart s (take (i + 1) is)
-apart_more s is i d h low here = All-more (λ x. x.sender ≡ s → ⊥) is i d h low here
-
 pub bytes_held_le : (is : List Item) → AllByRecursion (λ i. length i.bytes ≤ longest_item) is → bytes_held is ≤ longest_item * length is
 bytes_held_le [] h = omega arith
 bytes_held_le (i ∷ is) h = let a = h.0 in omega (arith, bytes_held_le is h.1)
-
-pub bytes_held_removed : (is : List Item) (i : ℕ) (d : Item) → i < length is → bytes_held (remove is i) + length (get_or is i d).bytes ≡ bytes_held is
-bytes_held_removed is i d h = sym (ap bytes_held (split_row is i d h) ∙ bytes_held_split (take i is) (drop (suc i) is) (get_or is i d))
 
 pub next_some : (is : List Item) (k i : ℕ) (d : Item) → LowerBound is k i → i < length is → next_sender is k ≡ Some (get_or is i d).sender
 next_some is k i d here h =
@@ -481,3 +463,35 @@ put_checked_slots b s x ok r = ⊎_elim
 pub when_refused : {A P : Type 0} (r : Outcome A) → P → IfRefused r P
 when_refused (Ok _) h = tt
 when_refused (Err _) h = h
+
+-- the item of a sender, at its index
+pub finds_at : (is : List Item) (s i : ℕ) (d : Item) → Rising is → i < length is → (get_or is i d).sender ≡ s → Finds is s (Some i)
+finds_at is s i d rises h here =
+    let low = rising_below (take i is) (drop (suc i) is) (get_or is i d) (subst Rising (split_row is i d h) rises) in
+    finds_some is s i d rises h (All-weaker (λ x. x.sender < (get_or is i d).sender) (λ x. x.sender ≡ s → ⊥) (λ x l e. omega arith) (take i is) low) here
+
+-- ---- what a check of the buffer says of a read
+pub any_fits : (n : ℕ) → buffer_checked n ≡ Ok tt → longest_item ≤ n
+any_fits n h = ⊎_elim
+    (λ (l : n < longest_item). absurd (let e : ◌≡◌ {A = Outcome (Unit {0})} (refuse BufferShort 0) (Ok tt) = rw (lt-ltb n longest_item l) at h in let z : ◌≡◌ {A = ℕ} 0 1 = cc in let y : ⊥ = omega arith in y))
+    (λ (l : longest_item ≤ n). l)
+    (cases_lt n longest_item)
+
+module _ (c : Contents) (s : ℕ) (buffer : List ℕ) where
+  -- the answer to a short buffer, which stays as it was
+  pub read_refused : (e : Refusal) → buffer_checked (length buffer) ≡ Err e → (Err e ≡ read_answer c s (length buffer)) × (buffer ≡ buffer_after_read c s buffer)
+  read_refused e h = ways (ltb (length buffer) longest_item) h
+    where
+      ways : (t : Bool) → ◌≡◌ {A = Outcome (Unit {0})} (cond t (refuse BufferShort 0) (Ok tt)) (Err e)
+          → ◌≡◌ {A = Outcome (Option ℕ)} (Err e) (cond t (refuse BufferShort 0) (Ok (found_length (bytes_of c.items s)))) × (buffer ≡ cond t buffer (at_front (bytes_of c.items s) buffer))
+      ways true h = let g : e ≡ refusal BufferShort 0 = cc in (ap (λ (r : Refusal). Err r) g, refl)
+      ways false h = absurd (let z : ◌≡◌ {A = ℕ} 0 1 = cc in let y : ⊥ = omega arith in y)
+
+  -- and the answer to one that any item fits, by what was found
+  pub read_taken : (o : Option (List ℕ)) → bytes_of c.items s ≡ o → buffer_checked (length buffer) ≡ Ok tt → (Ok (found_length o) ≡ read_answer c s (length buffer)) × (at_front o buffer ≡ buffer_after_read c s buffer)
+  read_taken o f h = ways (ltb (length buffer) longest_item) h
+    where
+      ways : (t : Bool) → ◌≡◌ {A = Outcome (Unit {0})} (cond t (refuse BufferShort 0) (Ok tt)) (Ok tt)
+          → ◌≡◌ {A = Outcome (Option ℕ)} (Ok (found_length o)) (cond t (refuse BufferShort 0) (Ok (found_length (bytes_of c.items s)))) × (at_front o buffer ≡ cond t buffer (at_front (bytes_of c.items s) buffer))
+      ways true h = absurd (let z : ◌≡◌ {A = ℕ} 0 1 = cc in let y : ⊥ = omega arith in y)
+      ways false h = (sym (ap (λ (p : Option (List ℕ)). Ok (found_length p)) f), sym (ap (λ p. at_front p buffer) f))

@@ -69,6 +69,10 @@ abbrev pub found_length : Option (List ℕ) → Option ℕ
 found_length None = None
 found_length (Some x) = Some (length x)
 
+-- whether any item fits a buffer of n bytes
+abbrev pub buffer_checked : ℕ → Outcome (Unit {0})
+buffer_checked n = cond (nat_lt n longest_item) (refuse BufferShort 0) (Ok tt)
+
 -- the answer to a buffer of n bytes: a short one is refused before the sender is looked for
 abbrev pub read_answer : Contents → ℕ → ℕ → Outcome (Option ℕ)
 read_answer c s n = cond (nat_lt n longest_item) (refuse BufferShort 0) (Ok (found_length (bytes_of c.items s)))

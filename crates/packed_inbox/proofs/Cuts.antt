@@ -1,12 +1,17 @@
 -- Items that lie end to end.
-use Rattle.std.proofs.Common.{◌≡◌, ℕ, zero, suc, ◌+◌, ◌-◌, ◌<◌, ◌≤◌, List, [], ◌∷◌, ◌++◌, length, get_or, take, drop, set, sym, refl, ap, ◌∙◌, add-zero, zero-add, add-one, arith}
-use Rattle.std.proofs.lemmas.List.{drop-drop, drop-append-le, take-append-le, length-drop, length-take, take_at, drop_at, append_assoc, take-append-drop, take_more, get_or-take}
+use Rattle.std.proofs.Common.{◌≡◌, ℕ, zero, suc, ◌+◌, ◌-◌, ◌<◌, ◌≤◌, true, false, eqb, List, [], ◌∷◌, ◌++◌, length, get_or, take, drop, set, sym, refl, ap, ◌∙◌, ⊎_elim, add-zero, zero-add, add-one, arith}
+use Rattle.std.proofs.lemmas.List.{drop-drop, drop-append-le, take-append-le, length-drop, length-take, take_at, drop_at, append_assoc, take-append-drop, take_more}
 use Rattle.std.specs.List.{remove, insert}
 use lib.Seq.{paste}
-use Rattle.inbox.proofs.Items.{split_row}
+use Rattle.inbox.proofs.Items.{split_row, Apart}
+use Rattle.inbox.specs.Calls.{without}
+use Rattle.inbox.specs.Search.{LowerBound}
+use Rattle.std.specs.List.{AllByRecursion, sum_by}
+use Rattle.std.proofs.lemmas.List.Sums.{sum_by-cons}
+use Rattle.std.proofs.lemmas.Bool.{cases_Bool}
 use Rattle.packed_inbox.proofs.Gaps.{filled}
-use Rattle.inbox.specs.Contents.{Item, bytes_held}
-use Rattle.packed_inbox.specs.Rows.{cut, span, row_item}
+use Rattle.inbox.specs.Contents.{Item, Rising, bytes_held}
+use Rattle.packed_inbox.specs.Rows.{cut, span, span_without, row_item}
 use Rattle.packed_inbox.specs.declared.row.Row.{Row}
 
 pub span_append : (p q : List Row) → span (p ++ q) ≡ span p + span q
@@ -71,11 +76,6 @@ getD_cut (x ∷ es) m (suc i) d e h = getD_cut es (drop x.len m) i d e (omega ar
 
 pub span_more : (es : List Row) (i : ℕ) (d : Row) → i < length es → span (take (i + 1) es) ≡ span (take i es) + (get_or es i d).len
 span_more es i d h = ap span (take_more es i d h) ∙ span_append (take i es) (get_or es i d ∷ []) ∙ ap (λ n. span (take i es) + n) (add-zero (get_or es i d).len)
-
-pub span_row : (es : List Row) (n i : ℕ) (d : Row) → i < n → n ≤ length es → span (take (i + 1) (take n es)) ≡ span (take i (take n es)) + (get_or es i d).len
-span_row es n i d h k =
-    let l : i < length (take n es) = simp length-take (omega arith) in
-    span_more (take n es) i d l ∙ ap (λ (e : Row). span (take i (take n es)) + e.len) (get_or-take n es i d h)
 
 -- a row ends
 module _ (rows : List Row) (at : ℕ) (d : Row) (h : at < length rows) where
@@ -147,3 +147,55 @@ pub span_set : (rows : List Row) (at : ℕ) (e d : Row) → at < length rows →
 span_set [] at e d h same = refl
 span_set (x ∷ rows) zero e d h same = ap (λ n. n + span rows) same
 span_set (x ∷ rows) (suc at) e d h same = ap (λ n. x.len + n) (span_set rows at e d (omega arith) same)
+
+-- ---- sums over rows
+pub span_sum : (es : List Row) → sum_by (λ (e : Row). e.len) es ≡ span es
+span_sum [] = refl
+span_sum (e ∷ es) = sum_by-cons (λ (e : Row). e.len) e es ∙ ap (λ n. e.len + n) (span_sum es)
+
+pub span_without_held : (s : ℕ) (es : List Row) (m : List ℕ) → span es ≤ length m → bytes_held (without (cut es m) s) ≡ span_without s es
+span_without_held s [] m h = refl
+span_without_held s (e ∷ es) m h =
+    let j : span es ≤ length (drop e.len m) = simp length-drop (omega arith) in
+    let t : length (take e.len m) ≡ e.len = simp length-take (omega arith) in
+    let k = span_without_held s es (drop e.len m) j in
+    ⊎_elim
+    (λ (f : eqb e.sender s ≡ true). rw f k)
+    (λ (f : eqb e.sender s ≡ false). rw f (omega arith))
+    (cases_Bool (eqb e.sender s))
+
+-- ---- rows by rising sender
+abbrev pub sender : Row → ℕ
+sender e = e.sender
+
+pub rising_rows : (es : List Row) (m : List ℕ) → Rising (cut es m) → (k : ℕ) (d : Row) → suc k < length es → sender (get_or es k d) < sender (get_or es (suc k) d)
+rising_rows [] m r k d h = absurd (let z : ⊥ = omega arith in z)
+rising_rows (e ∷ []) m r k d h = absurd (let z : ⊥ = omega arith in z)
+rising_rows (e ∷ f ∷ es) m r zero d h = r.0.0
+rising_rows (e ∷ f ∷ es) m r (suc k) d h = rising_rows (f ∷ es) (drop e.len m) r.1 k d (omega arith)
+
+-- the first rows are below s, and those behind are not
+pub bound_of : (es : List Row) (m : List ℕ) (s i : ℕ) → i ≤ length es
+    → ((k : ℕ) (d : Row) → k < i → sender (get_or es k d) < s) → ((k : ℕ) (d : Row) → i ≤ k → k < length es → s ≤ sender (get_or es k d))
+    → LowerBound (cut es m) s i
+bound_of es m s i h low high = record { in_range = omega (arith, length_cut es m); below = lows es m i h low; above = highs es m i h high }
+  where
+    lows : (es : List Row) (m : List ℕ) (i : ℕ) → i ≤ length es → ((k : ℕ) (d : Row) → k < i → sender (get_or es k d) < s) → AllByRecursion (λ x. x.sender < s) (take i (cut es m))
+    lows [] m zero h low = tt
+    lows [] m (suc i) h low = tt
+    lows (e ∷ es) m zero h low = tt
+    lows (e ∷ es) m (suc i) h low = (low 0 e (omega arith), lows es (drop e.len m) i (omega arith) (λ k d l. low (suc k) d (omega arith)))
+
+    all_high : (es : List Row) (m : List ℕ) → ((k : ℕ) (d : Row) → k < length es → s ≤ sender (get_or es k d)) → AllByRecursion (λ x. s ≤ x.sender) (cut es m)
+    all_high [] m high = tt
+    all_high (e ∷ es) m high = (high 0 e (omega arith), all_high es (drop e.len m) (λ k d l. high (suc k) d (omega arith)))
+
+    highs : (es : List Row) (m : List ℕ) (i : ℕ) → i ≤ length es → ((k : ℕ) (d : Row) → i ≤ k → k < length es → s ≤ sender (get_or es k d)) → AllByRecursion (λ x. s ≤ x.sender) (drop i (cut es m))
+    highs [] m zero h high = tt
+    highs [] m (suc i) h high = tt
+    highs (e ∷ es) m zero h high = all_high (e ∷ es) m (λ k d l. high k d (omega arith) l)
+    highs (e ∷ es) m (suc i) h high = highs es (drop e.len m) i (omega arith) (λ k d j l. high (suc k) d (omega arith) (omega arith))
+
+pub none_of : (es : List Row) (m : List ℕ) (s : ℕ) → ((k : ℕ) (d : Row) → k < length es → sender (get_or es k d) ≡ s → ⊥) → Apart s (cut es m)
+none_of [] m s h = tt
+none_of (e ∷ es) m s h = (h 0 e (omega arith), none_of es (drop e.len m) s (λ k d l. h (suc k) d (omega arith)))

@@ -1,7 +1,13 @@
 -- What the lent memory of a packed inbox holds after a call. Assumes nothing.
-use Rattle.std.specs.Prelude.{ℕ, ◌+◌, cond, List, [], ◌∷◌, ◌++◌, drop}
+use Rattle.std.specs.Prelude.{◌≡◌, ℕ, ◌+◌, cond, List, [], ◌∷◌, ◌++◌, drop}
 use Rattle.inbox.specs.Contents.{Item, Contents, lasts, bytes_held}
 use Rattle.inbox.specs.Calls.{older}
+use Rattle.packed_inbox.specs.declared.memory.Memory.{Memory}
+
+-- n is the memory that was lent to m, and it holds these bytes
+pub record Rewrites (m n : Memory) (bytes : List ℕ) : Type 0 where
+  pub lender : n.bytes.ghost_name ≡ m.bytes.ghost_name
+  pub after : n.bytes.now ≡ bytes
 
 -- the items' bytes, one behind the other
 abbrev pub end_to_end : List Item → List ℕ

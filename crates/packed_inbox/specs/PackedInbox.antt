@@ -1,5 +1,5 @@
 -- What a packed inbox holds. Assumes nothing.
-use Rattle.std.specs.Prelude.{ℕ, List, length, take}
+use Rattle.std.specs.Prelude.{ℕ, List, length}
 use Rattle.inbox.specs.Contents.{Contents, Lawful}
 use Rattle.inbox.specs.Law.{lawful_of}
 use Rattle.packed_inbox.specs.Rows.{cut}
@@ -8,7 +8,7 @@ use Rattle.packed_inbox.specs.declared.packed_inbox.PackedInbox.{PackedInbox}
 
 -- the rows of the held items
 abbrev pub rows : PackedInbox → List Row
-rows p = take p.count p.table
+rows p = p.table.items
 
 -- the bytes of the lent memory
 abbrev pub lent : PackedInbox → List ℕ

@@ -1,5 +1,5 @@
 -- Items that lie end to end, by a table of their senders, ages and lengths. Assumes nothing.
-use Rattle.std.specs.Prelude.{ℕ, ◌+◌, List, [], ◌∷◌, take, drop}
+use Rattle.std.specs.Prelude.{ℕ, ◌+◌, not, ◌==◌, List, [], ◌∷◌, filter, take, drop}
 use Rattle.inbox.specs.Contents.{Item}
 use Rattle.packed_inbox.specs.declared.row.Row.{Row}
 
@@ -16,3 +16,7 @@ cut (e ∷ es) m = row_item e m ∷ cut es (drop e.len m)
 abbrev pub span : List Row → ℕ
 span [] = 0
 span (e ∷ es) = e.len + span es
+
+-- the same without the rows of the sender
+abbrev pub span_without : ℕ → List Row → ℕ
+span_without s es = span (filter (λ e. not (e.sender == s)) es)

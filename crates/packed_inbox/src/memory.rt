@@ -1,5 +1,6 @@
 ghost use Rattle.std.specs.Prelude.{◌≡◌, ◌+◌, ◌-◌, ◌≤◌, ◌++◌, length, take, drop};
 ghost use Rattle.std.proofs.Math.Seq.{paste};
+ghost use Rattle.packed_inbox.specs.LentMemory.{Rewrites};
 
 /// Bytes that are lent.
 #[derive(Drop)]
@@ -11,9 +12,7 @@ impl<'a> Memory<'a> {
     /// Moves the bytes from `from` up to `to` so that they begin at `dest`.
     pub fn shift(&mut self, from: usize, to: usize, dest: usize)
         requires { (from ≤ to) × ((to ≤ length self.old.bytes.now) × (dest + (to - from) ≤ length self.old.bytes.now)) }
-        ensures len { length self.new.bytes.now ≡ length self.old.bytes.now }
-        ensures after { self.new.bytes.now ≡ paste self.old.bytes.now dest (drop from self.old.bytes.now) (to - from) }
-        ensures lender { self.new.bytes.ghost_name ≡ self.old.bytes.ghost_name }
+        ensures { Rewrites self.old self.new (paste self.old.bytes.now dest (drop from self.old.bytes.now) (to - from)) }
     {
         self.bytes.copy_within(from..to, dest);
     }
@@ -21,9 +20,7 @@ impl<'a> Memory<'a> {
     /// Writes the item so that it begins at `at`.
     pub fn write(&mut self, at: usize, item: &[u8])
         requires { at + length item.now ≤ length self.old.bytes.now }
-        ensures len { length self.new.bytes.now ≡ length self.old.bytes.now }
-        ensures after { self.new.bytes.now ≡ paste self.old.bytes.now at item.now (length item.now) }
-        ensures lender { self.new.bytes.ghost_name ≡ self.old.bytes.ghost_name }
+        ensures { Rewrites self.old self.new (paste self.old.bytes.now at item.now (length item.now)) }
     {
         let end = at + item.len();
         self.bytes[at..end].copy_from_slice(item);

@@ -1,17 +1,17 @@
 -- Items in slots.
-use Rattle.std.proofs.Common.{◌≡◌, ℕ, zero, suc, ◌+◌, ◌<◌, ◌≤◌, Bool, true, false, cond, eqb, ltb, List, [], ◌∷◌, ◌++◌, map, length, get_or, take, drop, set, replicate, Some, None, Option, sym, refl, ap, ◌∙◌, subst, ⊎_elim, arith}
-use Rattle.std.specs.List.{AllByRecursion}
-use Rattle.std.proofs.lemmas.Bool.{lt-ltb, le-ltb, ne_eqb, eq-eqb, eqb-false, eqb-true, cases_Bool, true≢false, false≢true, cases_lt, cases_eq, ltb-true, ltb-false}
-use Rattle.std.proofs.lemmas.List.{set-set, set-get_or, length-set, get_or-set_same, drop_more, get_or-set_other, get_or-replicate, take_more_set, drop-set-lt, append_assoc}
+use Rattle.std.proofs.Common.{◌≡◌, ℕ, zero, suc, ◌+◌, ◌<◌, ◌≤◌, Bool, true, false, cond, eqb, ltb, leb, min, List, [], ◌∷◌, ◌++◌, map, filter, find, length, get_or, take, drop, set, Some, None, Option, position, sym, refl, ap, ◌∙◌, subst, ⊎_elim, arith}
+use Rattle.std.specs.List.{fold, reduce, position_or_len}
+use Rattle.std.proofs.lemmas.List.Quantifiers.{position-Some}
+use Rattle.std.specs.Option.{option_map, is_some, is_none}
+use Rattle.std.proofs.lemmas.Bool.{lt-ltb, le-ltb, ne_eqb, eq-eqb, eqb-false, eqb-true, cases_Bool, true≢false, cases_lt, ltb-true, ltb-false, lt-leb, le-leb}
+use Rattle.std.proofs.lemmas.List.{set-set, set-get_or, length-set, get_or-set_same, take_all, drop_all, append-nil}
+use Rattle.std.proofs.lemmas.Option.{none-some, same_Some}
 use Rattle.inbox.specs.Contents.{lasts, Item, Contents, Rising, Lawful, bytes_held, holding, longest_item}
 use Rattle.inbox.specs.Calls.{holds, without, with_item, next_sender, bytes_of, aged, older}
-use Rattle.slot_inbox.specs.Slots.{gathered, slot_item, Distinct, emptied, older_slot, aged_slot, smaller_of, empty_slot, Whole, AllWhole}
+use Rattle.slot_inbox.specs.Slots.{taken, by_sender, gathered, slot_item, Apart, Distinct, aged_slot, is_of}
 use Rattle.slot_inbox.specs.declared.slot.Slot.{Slot}
-use Rattle.inbox.proofs.Items.{Apart, apart_not_held, without_apart, rising_with_item, aged_with, lawful_without, lawful_with_item, all_of_with, bytes_held_with}
-
-pub distinct_empty : (s : Slot) (n : ℕ) → s.held ≡ false → Distinct (replicate n s)
-distinct_empty s zero e = tt
-distinct_empty s (suc n) e = ((λ h. absurd (false≢true (sym e ∙ h))), distinct_empty s n e)
+use Rattle.inbox.proofs.Items.{Apart as Others, apart_not_held, holds_apart, without_apart, rising_with_item, aged_with, lawful_without, lawful_with_item}
+use Rattle.inbox.proofs.Aging.{all_aged, lawful_aged}
 
 -- ---- what each reading gives of a list with one item more
 pub holds_with : (is : List Item) (x : Item) (s : ℕ) → holds (with_item is x) s ≡ cond (eqb x.sender s) true (holds is s)
@@ -37,23 +37,6 @@ bytes_of_with (i ∷ is) x s = ⊎_elim
     (λ (e : ltb i.sender x.sender ≡ false). rw e)
     (cases_Bool (ltb i.sender x.sender))
 
-smaller_below : (x k : ℕ) → ltb x k ≡ true → (o : Option ℕ) → smaller_of x k o ≡ o
-smaller_below x k e None = rw e
-smaller_below x k e (Some y) = rw e
-
-pub next_with : (is : List Item) (x : Item) (k : ℕ) → next_sender (with_item is x) k ≡ smaller_of x.sender k (next_sender is k)
-next_with [] x k = refl
-next_with (i ∷ is) x k = ⊎_elim
-    (λ (e : ltb i.sender x.sender ≡ true). let l = ltb-true i.sender x.sender e in ⊎_elim
-    (λ (f : ltb i.sender k ≡ true). simp (e, f) (next_with is x k))
-    (λ (f : ltb i.sender k ≡ false). let m = ltb-false i.sender k f in simp (e, f, le-ltb x.sender k (omega arith)))
-    (cases_Bool (ltb i.sender k)))
-    (λ (e : ltb i.sender x.sender ≡ false). let l = ltb-false i.sender x.sender e in ⊎_elim
-    (λ (g : ltb x.sender k ≡ true). rw e (rw g (sym (smaller_below x.sender k g (next_sender (i ∷ is) k)))))
-    (λ (g : ltb x.sender k ≡ false). let m = ltb-false x.sender k g in simp (e, g, le-ltb i.sender k (omega arith)))
-    (cases_Bool (ltb x.sender k)))
-    (cases_Bool (ltb i.sender x.sender))
-
 -- two items of different senders, in either order
 pub with_comm : (is : List Item) (x y : Item) → (x.sender ≡ y.sender → ⊥) → with_item (with_item is x) y ≡ with_item (with_item is y) x
 with_comm [] x y ne = ⊎_elim
@@ -74,7 +57,7 @@ with_comm (i ∷ is) x y ne = ⊎_elim
     (cases_Bool (ltb i.sender y.sender)))
     (cases_Bool (ltb i.sender x.sender))
 
-pub without_with : (is : List Item) (x : Item) → Apart x.sender is → without (with_item is x) x.sender ≡ is
+pub without_with : (is : List Item) (x : Item) → Others x.sender is → without (with_item is x) x.sender ≡ is
 without_with [] x h = rw (eq-eqb x.sender x.sender refl)
 without_with (i ∷ is) x h = ⊎_elim
     (λ (e : ltb i.sender x.sender ≡ true). rw e (rw (ne_eqb i.sender x.sender h.0) (ap (λ l. i ∷ l) (without_with is x h.1))))
@@ -88,9 +71,9 @@ length_with (i ∷ is) x = ⊎_elim
     (λ (e : ltb i.sender x.sender ≡ false). rw e)
     (cases_Bool (ltb i.sender x.sender))
 
--- ---- slots
+-- ---- items in slots
 module _ (t : ℕ) where
-  -- a sender that two slots' items are without
+  -- a sender that a list with one item more is without
   split_holds : (is : List Item) (x : Item) → holds (with_item is x) t ≡ false → (x.sender ≡ t → ⊥) × (holds is t ≡ false)
   split_holds is x h =
       let e : cond (eqb x.sender t) true (holds is t) ≡ false = sym (holds_with is x t) ∙ h in
@@ -101,208 +84,254 @@ module _ (t : ℕ) where
   join_holds : (is : List Item) (x : Item) → (x.sender ≡ t → ⊥) → holds is t ≡ false → holds (with_item is x) t ≡ false
   join_holds is x ne h = holds_with is x t ∙ rw (ne_eqb x.sender t ne) h
 
-  -- a sender that no slot holds is not held once a slot is ended
-  pub free_still : (ss : List Slot) (i : ℕ) (s : Slot) → s.held ≡ false → holds (gathered ss) t ≡ false → holds (gathered (set ss i s)) t ≡ false
-  free_still [] i s e h = h
-  free_still (r ∷ ss) zero s e h = ⊎_elim
-      (λ (f : r.held ≡ true). rw e (split_holds (gathered ss) (slot_item r) (rw f at h)).1)
-      (λ (f : r.held ≡ false). rw e (rw f at h))
-      (cases_Bool r.held)
-  free_still (r ∷ ss) (suc i) s e h = ⊎_elim
-      (λ (f : r.held ≡ true). let p = split_holds (gathered ss) (slot_item r) (rw f at h) in rw f (join_holds (gathered (set ss i s)) (slot_item r) p.0 (free_still ss i s e p.1)))
-      (λ (f : r.held ≡ false). rw f (free_still ss i s e (rw f at h)))
-      (cases_Bool r.held)
+  -- a sender that is not held is not held once a slot is emptied
+  free_still : (ss : List (Option Slot)) (i : ℕ) → holds (gathered ss) t ≡ false → holds (gathered (set ss i None)) t ≡ false
+  free_still [] i h = h
+  free_still (None ∷ ss) zero h = h
+  free_still (Some r ∷ ss) zero h = (split_holds (gathered ss) (slot_item r) h).1
+  free_still (None ∷ ss) (suc i) h = free_still ss i h
+  free_still (Some r ∷ ss) (suc i) h = let p = split_holds (gathered ss) (slot_item r) h in join_holds (gathered (set ss i None)) (slot_item r) p.0 (free_still ss i p.1)
 
-pub held_at : (ss : List Slot) (i : ℕ) (d : Slot) → i < length ss → (get_or ss i d).held ≡ true → holds (gathered ss) (get_or ss i d).sender ≡ true
-held_at [] i d h e = absurd (let z : ⊥ = omega arith in z)
-held_at (r ∷ ss) zero d h e = rw e (holds_with (gathered ss) (slot_item r) r.sender ∙ rw (eq-eqb r.sender r.sender refl))
-held_at (r ∷ ss) (suc i) d h e = ⊎_elim
-    (λ (f : r.held ≡ true). rw f (holds_with (gathered ss) (slot_item r) (get_or ss i d).sender ∙ rw (held_at ss i d (omega arith) e) (both (eqb r.sender (get_or ss i d).sender))))
-    (λ (f : r.held ≡ false). rw f (held_at ss i d (omega arith) e))
-    (cases_Bool r.held)
+held_at : (ss : List (Option Slot)) (i : ℕ) (x : Slot) → get_or ss i None ≡ Some x → holds (gathered ss) x.sender ≡ true
+held_at [] i x e = absurd (none-some x e)
+held_at (None ∷ ss) zero x e = absurd (none-some x e)
+held_at (Some r ∷ ss) zero x e = holds_with (gathered ss) (slot_item r) x.sender ∙ rw (eq-eqb r.sender x.sender (ap (λ (y : Slot). y.sender) (same_Some r x e)))
+held_at (None ∷ ss) (suc i) x e = held_at ss i x e
+held_at (Some r ∷ ss) (suc i) x e = holds_with (gathered ss) (slot_item r) x.sender ∙ rw (held_at ss i x e) (both (eqb r.sender x.sender))
   where
     both : (b : Bool) → cond b true true ≡ true
     both true = refl
     both false = refl
 
--- the first slot's sender is not that of a later one
-other : (r : Slot) (ss : List Slot) (i : ℕ) (d : Slot) → i < length ss → (get_or ss i d).held ≡ true → r.held ≡ true → Distinct (r ∷ ss) → r.sender ≡ (get_or ss i d).sender → ⊥
-other r ss i d h e f k z = true≢false (sym (held_at ss i d h e) ∙ sym (ap (λ n. holds (gathered ss) n) z) ∙ k.0 f)
+-- once the slot is emptied its sender is not held
+gone_at : (ss : List (Option Slot)) (i : ℕ) (x : Slot) → get_or ss i None ≡ Some x → Distinct ss → holds (gathered (set ss i None)) x.sender ≡ false
+gone_at [] i x e k = refl
+gone_at (None ∷ ss) zero x e k = absurd (none-some x e)
+gone_at (Some r ∷ ss) zero x e k = subst (λ (y : Slot). holds (gathered ss) y.sender ≡ false) (same_Some r x e) k.0
+gone_at (None ∷ ss) (suc i) x e k = gone_at ss i x e k
+gone_at (Some r ∷ ss) (suc i) x e k = join_holds x.sender (gathered (set ss i None)) (slot_item r)
+    (λ z. true≢false (sym (held_at ss i x e) ∙ sym (ap (holds (gathered ss)) z) ∙ k.0))
+    (gone_at ss i x e k.1)
 
-pub bytes_in : (ss : List Slot) (i : ℕ) (d : Slot) → i < length ss → Distinct ss → (get_or ss i d).held ≡ true → bytes_of (gathered ss) (get_or ss i d).sender ≡ Some (slot_item (get_or ss i d)).bytes
-bytes_in [] i d h k e = absurd (let z : ⊥ = omega arith in z)
-bytes_in (r ∷ ss) zero d h k e = rw e (bytes_of_with (gathered ss) (slot_item r) r.sender ∙ rw (eq-eqb r.sender r.sender refl))
-bytes_in (r ∷ ss) (suc i) d h k e = ⊎_elim
-    (λ (f : r.held ≡ true). rw f (bytes_of_with (gathered ss) (slot_item r) (get_or ss i d).sender ∙ rw (ne_eqb r.sender (get_or ss i d).sender (other r ss i d (omega arith) e f k)) (bytes_in ss i d (omega arith) k.1 e)))
-    (λ (f : r.held ≡ false). rw f (bytes_in ss i d (omega arith) k.1 e))
-    (cases_Bool r.held)
+-- an item is put into an empty slot
+filled_slot : (ss : List (Option Slot)) (i : ℕ) (x : Slot) → i < length ss → get_or ss i None ≡ None → holds (gathered ss) x.sender ≡ false
+    → gathered (set ss i (Some x)) ≡ with_item (gathered ss) (slot_item x)
+filled_slot [] i x h e a = absurd (let z : ⊥ = omega arith in z)
+filled_slot (None ∷ ss) zero x h e a = refl
+filled_slot (Some r ∷ ss) zero x h e a = absurd (none-some r (sym e))
+filled_slot (None ∷ ss) (suc i) x h e a = filled_slot ss i x (omega arith) e a
+filled_slot (Some r ∷ ss) (suc i) x h e a =
+    let p = split_holds x.sender (gathered ss) (slot_item r) a in
+    ap (λ l. with_item l (slot_item r)) (filled_slot ss i x (omega arith) e p.1) ∙ with_comm (gathered ss) (slot_item x) (slot_item r) (λ z. p.0 (sym z))
 
--- once the slot is ended its sender is not held
-pub gone_at : (ss : List Slot) (i : ℕ) (d s : Slot) → i < length ss → Distinct ss → (get_or ss i d).held ≡ true → s.held ≡ false → holds (gathered (set ss i s)) (get_or ss i d).sender ≡ false
-gone_at [] i d s h k e z = refl
-gone_at (r ∷ ss) zero d s h k e z = rw z (k.0 e)
-gone_at (r ∷ ss) (suc i) d s h k e z = ⊎_elim
-    (λ (f : r.held ≡ true). rw f (join_holds (get_or ss i d).sender (gathered (set ss i s)) (slot_item r) (other r ss i d (omega arith) e f k) (gone_at ss i d s (omega arith) k.1 e z)))
-    (λ (f : r.held ≡ false). rw f (gone_at ss i d s (omega arith) k.1 e z))
-    (cases_Bool r.held)
+-- a slot is emptied
+let_go : (ss : List (Option Slot)) (i : ℕ) (x : Slot) → i < length ss → get_or ss i None ≡ Some x → Distinct ss → gathered (set ss i None) ≡ without (gathered ss) x.sender
+let_go ss i x h e k =
+    let low = gone_at ss i x e k in
+    let back : set (set ss i None) i (Some x) ≡ ss = set-set ss i None (Some x) ∙ ap (set ss i) (sym e) ∙ set-get_or ss i None in
+    let l : i < length (set ss i None) = simp length-set h in
+    let was = sym (ap gathered back) ∙ filled_slot (set ss i None) i x l (get_or-set_same ss i None None h) low in
+    sym (ap (λ l. without l x.sender) was ∙ without_with (gathered (set ss i None)) (slot_item x) (apart_not_held x.sender (gathered (set ss i None)) low))
 
--- an item is put into a free slot
-pub filled_slot : (ss : List Slot) (i : ℕ) (d s : Slot) → i < length ss → (get_or ss i d).held ≡ false → s.held ≡ true → holds (gathered ss) s.sender ≡ false
-    → gathered (set ss i s) ≡ with_item (gathered ss) (slot_item s)
-filled_slot [] i d s h e f a = absurd (let z : ⊥ = omega arith in z)
-filled_slot (r ∷ ss) zero d s h e f a = simp (e, f)
-filled_slot (r ∷ ss) (suc i) d s h e f a = ⊎_elim
-    (λ (g : r.held ≡ true). let p = split_holds s.sender (gathered ss) (slot_item r) (rw g at a) in
-    rw g (ap (λ l. with_item l (slot_item r)) (filled_slot ss i d s (omega arith) e f p.1) ∙ with_comm (gathered ss) (slot_item s) (slot_item r) (λ z. p.0 (sym z))))
-    (λ (g : r.held ≡ false). rw g (filled_slot ss i d s (omega arith) e f (rw g at a)))
-    (cases_Bool r.held)
+distinct_let_go : (ss : List (Option Slot)) (i : ℕ) → Distinct ss → Distinct (set ss i None)
+distinct_let_go [] i k = tt
+distinct_let_go (None ∷ ss) zero k = k
+distinct_let_go (Some r ∷ ss) zero k = k.1
+distinct_let_go (None ∷ ss) (suc i) k = distinct_let_go ss i k
+distinct_let_go (Some r ∷ ss) (suc i) k = (free_still r.sender ss i k.0, distinct_let_go ss i k.1)
 
--- a slot is ended
-module _ (ss : List Slot) (i : ℕ) (d s : Slot) (h : i < length ss) (k : Distinct ss) (e : (get_or ss i d).held ≡ true) (z : s.held ≡ false) where
-  pub let_go_is : gathered ss ≡ with_item (gathered (set ss i s)) (slot_item (get_or ss i d))
-  let_go_is =
-      let back : set (set ss i s) i (get_or ss i d) ≡ ss = set-set ss i s (get_or ss i d) ∙ set-get_or ss i d in
-      let l : i < length (set ss i s) = simp length-set h in
-      let f : (get_or (set ss i s) i d).held ≡ false = ap (λ (x : Slot). x.held) (get_or-set_same ss i s d h) ∙ z in
-      sym (ap gathered back) ∙ filled_slot (set ss i s) i d (get_or ss i d) l f e (gone_at ss i d s h k e z)
+distinct_filled : (ss : List (Option Slot)) (i : ℕ) (x : Slot) → i < length ss → get_or ss i None ≡ None → holds (gathered ss) x.sender ≡ false → Distinct ss → Distinct (set ss i (Some x))
+distinct_filled [] i x h e a k = tt
+distinct_filled (None ∷ ss) zero x h e a k = (a, k)
+distinct_filled (Some r ∷ ss) zero x h e a k = absurd (none-some r (sym e))
+distinct_filled (None ∷ ss) (suc i) x h e a k = distinct_filled ss i x (omega arith) e a k
+distinct_filled (Some r ∷ ss) (suc i) x h e a k =
+    let p = split_holds x.sender (gathered ss) (slot_item r) a in (
+      ap (λ l. holds l r.sender) (filled_slot ss i x (omega arith) e p.1) ∙ join_holds r.sender (gathered ss) (slot_item x) (λ z. p.0 (sym z)) k.0,
+      distinct_filled ss i x (omega arith) e p.1 k.1,
+    )
 
-  pub let_go : gathered (set ss i s) ≡ without (gathered ss) (get_or ss i d).sender
-  let_go = sym (ap (λ l. without l (get_or ss i d).sender) let_go_is ∙ without_with (gathered (set ss i s)) (slot_item (get_or ss i d)) (apart_not_held (get_or ss i d).sender (gathered (set ss i s)) (gone_at ss i d s h k e z)))
-
-pub distinct_let_go : (ss : List Slot) (i : ℕ) (s : Slot) → s.held ≡ false → Distinct ss → Distinct (set ss i s)
-distinct_let_go [] i s z k = tt
-distinct_let_go (r ∷ ss) zero s z k = ((λ h. absurd (false≢true (sym z ∙ h))), k.1)
-distinct_let_go (r ∷ ss) (suc i) s z k = ((λ h. free_still r.sender ss i s z (k.0 h)), distinct_let_go ss i s z k.1)
-
-pub distinct_filled : (ss : List Slot) (i : ℕ) (d s : Slot) → i < length ss → (get_or ss i d).held ≡ false → s.held ≡ true → holds (gathered ss) s.sender ≡ false → Distinct ss → Distinct (set ss i s)
-distinct_filled [] i d s h e f a k = tt
-distinct_filled (r ∷ ss) zero d s h e f a k = ((λ _. rw e at a), k.1)
-distinct_filled (r ∷ ss) (suc i) d s h e f a k = ⊎_elim
-    (λ (g : r.held ≡ true). let p = split_holds s.sender (gathered ss) (slot_item r) (rw g at a) in (
-      (λ h'. ap (λ l. holds l r.sender) (filled_slot ss i d s (omega arith) e f p.1) ∙ join_holds r.sender (gathered ss) (slot_item s) (λ z. p.0 (sym z)) (k.0 h')),
-      distinct_filled ss i d s (omega arith) e f p.1 k.1,
-    ))
-    (λ (g : r.held ≡ false). ((λ h'. absurd (false≢true (sym g ∙ h'))), distinct_filled ss i d s (omega arith) e f (rw g at a) k.1))
-    (cases_Bool r.held)
-
-pub rising_gathered : (ss : List Slot) → Distinct ss → Rising (gathered ss)
+rising_gathered : (ss : List Slot) → Apart ss → Rising (by_sender ss)
 rising_gathered [] k = tt
-rising_gathered (s ∷ ss) k = ⊎_elim
-    (λ (e : s.held ≡ true). rw e (rising_with_item (gathered ss) (slot_item s) (rising_gathered ss k.1) (k.0 e)))
-    (λ (e : s.held ≡ false). rw e (rising_gathered ss k.1))
-    (cases_Bool s.held)
+rising_gathered (s ∷ ss) k = rising_with_item (by_sender ss) (slot_item s) (rising_gathered ss k.1) k.0
 
 -- every slot one age older
-pub aged_gathered : (life : ℕ) (ss : List Slot) → Distinct ss → gathered (map (aged_slot life) ss) ≡ aged life (gathered ss)
+pub aged_gathered : (life : ℕ) (ss : List (Option Slot)) → Distinct ss → gathered (map (aged_slot life) ss) ≡ aged life (gathered ss)
 aged_gathered life [] k = refl
-aged_gathered life (s ∷ ss) k = ⊎_elim
-    (λ (e : s.held ≡ true).
-    let a = aged_with life (gathered ss) (slot_item s) (rising_gathered ss k.1) (apart_not_held s.sender (gathered ss) (k.0 e)) in
+aged_gathered life (None ∷ ss) k = aged_gathered life ss k
+aged_gathered life (Some s ∷ ss) k =
+    let a = aged_with life (gathered ss) (slot_item s) (rising_gathered (taken ss) k.1) (apart_not_held s.sender (gathered ss) k.0) in
     ⊎_elim
-    (λ (f : lasts life (s.age + 1) ≡ true). simp (e, f) (ap (λ l. with_item l (older (slot_item s))) (aged_gathered life ss k.1) ∙ sym (a ∙ rw f)))
-    (λ (f : lasts life (s.age + 1) ≡ false). simp (e, f) (aged_gathered life ss k.1 ∙ sym (a ∙ rw f)))
-    (cases_Bool (lasts life (s.age + 1))))
-    (λ (e : s.held ≡ false). simp e (aged_gathered life ss k.1))
-    (cases_Bool s.held)
+    (λ (f : lasts life (s.age + 1) ≡ true). simp f (ap (λ l. with_item l (older (slot_item s))) (aged_gathered life ss k.1) ∙ sym (a ∙ rw f)))
+    (λ (f : lasts life (s.age + 1) ≡ false). simp f (aged_gathered life ss k.1 ∙ sym (a ∙ rw f)))
+    (cases_Bool (lasts life (s.age + 1)))
 
--- one slot changed: what always holds still does
-pub record StillLawful (b : Contents) (ss : List Slot) : Type 0 where
-  pub distinct : Distinct ss
+free_aged : (life : ℕ) (is : List Item) (t : ℕ) → holds is t ≡ false → holds (aged life is) t ≡ false
+free_aged life is t h = holds_apart (aged life is) t (all_aged (λ i. i.sender ≡ t → ⊥) (λ i. i.sender ≡ t → ⊥) life (λ i m _. m) is (apart_not_held t is h))
+
+distinct_aged : (life : ℕ) (ss : List (Option Slot)) → Distinct ss → Distinct (map (aged_slot life) ss)
+distinct_aged life [] k = tt
+distinct_aged life (None ∷ ss) k = distinct_aged life ss k
+distinct_aged life (Some s ∷ ss) k = ⊎_elim
+    (λ (f : lasts life (s.age + 1) ≡ true). simp f (ap (λ l. holds l s.sender) (aged_gathered life ss k.1) ∙ free_aged life (gathered ss) s.sender k.0, distinct_aged life ss k.1))
+    (λ (f : lasts life (s.age + 1) ≡ false). simp f (distinct_aged life ss k.1))
+    (cases_Bool (lasts life (s.age + 1)))
+
+-- what always holds of the slots of an inbox
+pub record Kept (b : Contents) (ss : List (Option Slot)) : Type 0 where
   pub lawful : Lawful (holding b (gathered ss))
+  pub distinct : Distinct ss
 
-module _ (b : Contents) (ss : List Slot) (i : ℕ) (d : Slot) (h : i < length ss) (k : Distinct ss) (ok : Lawful (holding b (gathered ss))) where
-  pub emptied_kept : (get_or ss i d).held ≡ true → StillLawful b (set ss i (emptied (get_or ss i d)))
-  emptied_kept e = record {
-    distinct = distinct_let_go ss i (emptied (get_or ss i d)) refl k;
-    lawful = subst (λ is. Lawful (holding b is)) (sym (let_go ss i d (emptied (get_or ss i d)) h k e refl)) (lawful_without (holding b (gathered ss)) (get_or ss i d).sender ok);
-  }
+-- every slot is one age older
+pub kept_aged : (b : Contents) (ss : List (Option Slot)) → Kept b ss → Kept b (map (aged_slot b.life) ss)
+kept_aged b ss k = record {
+  lawful = subst (λ is. Lawful (holding b is)) (sym (aged_gathered b.life ss k.distinct)) (lawful_aged (holding b (gathered ss)) k.lawful);
+  distinct = distinct_aged b.life ss k.distinct;
+}
 
-  pub older_slot_kept : (get_or ss i d).held ≡ true → lasts b.life ((get_or ss i d).age + 1) ≡ true → StillLawful b (set ss i (older_slot (get_or ss i d)))
-  older_slot_kept e young =
-      let s = get_or ss i d in
-      let s' = older_slot (get_or ss i d) in
-      let ss₀ = set ss i (emptied s) in
-      let low = emptied_kept e in
-      let l : i < length ss₀ = simp length-set h in
-      let f : (get_or ss₀ i d).held ≡ false = ap (λ (x : Slot). x.held) (get_or-set_same ss i (emptied s) d h) in
-      let free = gone_at ss i d (emptied s) h k e refl in
-      let was = let_go_is ss i d (emptied s) h k e refl in
-      let few = ok.few in
-      let within = ok.within in
-      let same : set ss₀ i s' ≡ set ss i s' = set-set ss i (emptied s) s' in
-      let n = ap length was ∙ length_with (gathered ss₀) (slot_item s) in
-      let w = ap bytes_held was ∙ bytes_held_with (gathered ss₀) (slot_item s) in
-      let fit = all_of_with (λ (x : Item). length x.bytes ≤ longest_item) (gathered ss₀) (slot_item s) (subst (AllByRecursion (λ (x : Item). length x.bytes ≤ longest_item)) was ok.fits) in
-      let number = all_of_with (λ (x : Item). x.sender < 65536) (gathered ss₀) (slot_item s) (subst (AllByRecursion (λ (x : Item). x.sender < 65536)) was ok.numbers) in
-      record {
-        distinct = subst Distinct same (distinct_filled ss₀ i d s' l f e free low.distinct);
-        lawful = subst (λ is. Lawful (holding b is)) (sym (filled_slot ss₀ i d s' l f e free) ∙ ap gathered same)
-            (lawful_with_item (holding b (gathered ss₀)) (slot_item s') low.lawful free number (omega arith) fit young (omega arith));
-      }
+-- the slots after a change, by the items that they have then
+pub record Becomes (b : Contents) (ss : List (Option Slot)) (is : List Item) : Type 0 where
+  pub items : gathered ss ≡ is
+  pub kept : Kept b ss
 
--- ---- a loop over the slots
-module _ (ss : List Slot) (i : ℕ) (d : Slot) (h : i < length ss) where
-  pub drop_held : (get_or ss i d).held ≡ true → gathered (drop i ss) ≡ with_item (gathered (drop (i + 1) ss)) (slot_item (get_or ss i d))
-  drop_held e = ap gathered (drop_more ss i d h) ∙ rw e
-
-  pub drop_free : (get_or ss i d).held ≡ false → gathered (drop i ss) ≡ gathered (drop (i + 1) ss)
-  drop_free e = ap gathered (drop_more ss i d h) ∙ rw e
-
-  pub skip_slot : (s : ℕ) → ((get_or ss i d).held ≡ true → (get_or ss i d).sender ≡ s → ⊥) → holds (gathered (drop (i + 1) ss)) s ≡ holds (gathered (drop i ss)) s
-  skip_slot s ne = ⊎_elim
-      (λ (e : (get_or ss i d).held ≡ true). sym (ap (λ l. holds l s) (drop_held e) ∙ holds_with (gathered (drop (i + 1) ss)) (slot_item (get_or ss i d)) s ∙ rw (ne_eqb (get_or ss i d).sender s (ne e))))
-      (λ (e : (get_or ss i d).held ≡ false). sym (ap (λ l. holds l s) (drop_free e)))
-      (cases_Bool (get_or ss i d).held)
-
-pub aged_slot_free : (life : ℕ) (s : Slot) → s.held ≡ false → aged_slot life s ≡ s
-aged_slot_free life s e = rw e
-
--- what holds of each item holds of a held slot's
-module _ (b : Contents) (ss : List Slot) (i : ℕ) (d : Slot) (h : i < length ss) (k : Distinct ss) (ok : Lawful (holding b (gathered ss))) (e : (get_or ss i d).held ≡ true) where
-  was : gathered ss ≡ with_item (gathered (set ss i (emptied (get_or ss i d)))) (slot_item (get_or ss i d))
-  was = let_go_is ss i d (emptied (get_or ss i d)) h k e refl
-
-  pub young_at : lasts b.life (get_or ss i d).age ≡ true
-  young_at = all_of_with (λ (x : Item). lasts b.life x.age ≡ true) (gathered (set ss i (emptied (get_or ss i d)))) (slot_item (get_or ss i d)) (subst (AllByRecursion (λ (x : Item). lasts b.life x.age ≡ true)) was ok.young)
-
-pub whole_set : (ss : List Slot) (i : ℕ) (s : Slot) → i < length ss → Whole s → AllWhole ss → AllWhole (set ss i s)
-whole_set ss i s h w all k l = ⊎_elim
-    (λ (e : k ≡ i). subst Whole (sym (ap (λ n. get_or (set ss i s) n empty_slot) e ∙ get_or-set_same ss i s empty_slot h)) w)
-    (λ (ne : k ≡ i → ⊥). subst Whole (sym (get_or-set_other ss i k s empty_slot ne)) (all k l))
-    (cases_eq k i)
-
-pub whole_empty : (s : Slot) → Whole s → AllWhole (replicate 16 s)
-whole_empty s w k l = subst Whole (sym (get_or-replicate 16 k s empty_slot l)) w
-
--- a new item in a free slot
-pub record PutIn (b : Contents) (ss : List Slot) (x : Item) (ss' : List Slot) : Type 0 where
-  pub items : gathered ss' ≡ with_item (gathered ss) x
-  pub kept : StillLawful b ss'
-
-pub puts_in : (b : Contents) (ss : List Slot) (i : ℕ) (s : Slot) (x : Item) → i < length ss → Distinct ss → Lawful (holding b (gathered ss))
-    → (get_or ss i empty_slot).held ≡ false → s.held ≡ true → slot_item s ≡ x → holds (gathered ss) x.sender ≡ false → x.sender < 65536
-    → length (gathered ss) < b.sender_limit → length x.bytes ≤ longest_item → lasts b.life x.age ≡ true → bytes_held (gathered ss) + length x.bytes ≤ b.byte_limit
-    → PutIn b ss x (set ss i s)
-puts_in b ss i s x h k ok free held same apart number few fits young room =
-    let a : holds (gathered ss) s.sender ≡ false = ap (λ (y : Item). holds (gathered ss) y.sender) same ∙ apart in
-    let e : gathered (set ss i s) ≡ with_item (gathered ss) x = filled_slot ss i empty_slot s h free held a ∙ ap (with_item (gathered ss)) same in
+-- a slot is emptied
+pub empties : (b : Contents) (ss : List (Option Slot)) (i : ℕ) (x : Slot) → Kept b ss → i < length ss → get_or ss i None ≡ Some x → Becomes b (set ss i None) (without (gathered ss) x.sender)
+empties b ss i x k h e =
+    let gone = let_go ss i x h e k.distinct in
     record {
-      items = e;
+      items = gone;
       kept = record {
-        distinct = distinct_filled ss i empty_slot s h free held a k;
-        lawful = subst (λ is. Lawful (holding b is)) (sym e) (lawful_with_item (holding b (gathered ss)) x ok apart number few fits young room);
+        lawful = subst (λ is. Lawful (holding b is)) (sym gone) (lawful_without (holding b (gathered ss)) x.sender k.lawful);
+        distinct = distinct_let_go ss i k.distinct;
       };
     }
 
--- a loop that ages each slot
-pub ages_more : (f : Slot → Slot) (ss : List Slot) (i : ℕ) → i < length ss
-    → take (i + 1) (set ss i (f (get_or ss i empty_slot))) ++ map f (drop (i + 1) (set ss i (f (get_or ss i empty_slot)))) ≡ take i ss ++ map f (drop i ss)
-ages_more f ss i h =
-    let y = f (get_or ss i empty_slot) in
-    ap (λ l. l ++ map f (drop (i + 1) (set ss i y))) (take_more_set ss i y h)
-    ∙ ap (λ l. (take i ss ++ y ∷ []) ++ map f l) (drop-set-lt (i + 1) ss i y (omega arith))
-    ∙ append_assoc (take i ss) (y ∷ []) (map f (drop (i + 1) ss))
-    ∙ ap (λ l. take i ss ++ map f l) (sym (drop_more ss i empty_slot h))
+-- an item is put into an empty slot
+pub fills : (b : Contents) (ss : List (Option Slot)) (i : ℕ) (s : Slot) (x : Item) → slot_item s ≡ x → Kept b ss → i < length ss → get_or ss i None ≡ None → holds (gathered ss) x.sender ≡ false → x.sender < 65536
+    → length (gathered ss) < b.sender_limit → length x.bytes ≤ longest_item → lasts b.life x.age ≡ true → bytes_held (gathered ss) + length x.bytes ≤ b.byte_limit
+    → Becomes b (set ss i (Some s)) (with_item (gathered ss) x)
+fills b ss i s x same k h e apart number few fits young room =
+    let free : holds (gathered ss) s.sender ≡ false = ap (λ (y : Item). holds (gathered ss) y.sender) same ∙ apart in
+    let more = filled_slot ss i s h e free ∙ ap (with_item (gathered ss)) same in
+    record {
+      items = more;
+      kept = record {
+        lawful = subst (λ is. Lawful (holding b is)) (sym more) (lawful_with_item (holding b (gathered ss)) x k.lawful apart number few fits young room);
+        distinct = distinct_filled ss i s h e free k.distinct;
+      };
+    }
 
-pub next_drop : (ss : List Slot) (i k : ℕ) → i < length ss → (get_or ss i empty_slot).held ≡ true → next_sender (gathered (drop i ss)) k ≡ smaller_of (get_or ss i empty_slot).sender k (next_sender (gathered (drop (i + 1) ss)) k)
-next_drop ss i k h e = ap (λ l. next_sender l k) (drop_held ss i empty_slot h e) ∙ next_with (gathered (drop (i + 1) ss)) (slot_item (get_or ss i empty_slot)) k
+-- ---- what is read of the slots
+pub length_by_sender : (ss : List Slot) → length (by_sender ss) ≡ length ss
+length_by_sender [] = refl
+length_by_sender (s ∷ ss) = length_with (by_sender ss) (slot_item s) ∙ ap suc (length_by_sender ss)
+
+-- a slot that is found by its sender has the sender's item
+pub bytes_found : (ss : List Slot) (s : ℕ) → bytes_of (by_sender ss) s ≡ option_map (λ x. (slot_item x).bytes) (find (λ x. eqb x.sender s) ss)
+bytes_found [] s = refl
+bytes_found (x ∷ ss) s = bytes_of_with (by_sender ss) (slot_item x) s ∙ ⊎_elim
+    (λ (e : eqb x.sender s ≡ true). rw e)
+    (λ (e : eqb x.sender s ≡ false). rw e (bytes_found ss s))
+    (cases_Bool (eqb x.sender s))
+
+-- the smallest sender from k on
+fold_min : (a x : ℕ) (xs : List ℕ) → fold min (min a x) xs ≡ min a (fold min x xs)
+fold_min a x [] = refl
+fold_min a x (y ∷ xs) = ap (λ m. fold min m xs) (let e : min (min a x) y ≡ min a (min x y) = omega arith in e) ∙ fold_min a (min x y) xs
+
+smaller : ℕ → Option ℕ → Option ℕ
+smaller x None = Some x
+smaller x (Some y) = Some (min x y)
+
+reduce_min : (x : ℕ) (xs : List ℕ) → reduce min (x ∷ xs) ≡ smaller x (reduce min xs)
+unfolding smaller
+reduce_min x [] = refl
+reduce_min x (y ∷ xs) = ap Some (fold_min x y xs)
+
+next_with : (is : List Item) (x : Item) (k : ℕ) → next_sender (with_item is x) k ≡ cond (leb k x.sender) (smaller x.sender (next_sender is k)) (next_sender is k)
+unfolding smaller
+next_with [] x k = ⊎_elim
+    (λ (g : x.sender < k). rw (lt-ltb x.sender k g, lt-leb k x.sender g))
+    (λ (g : k ≤ x.sender). rw (le-ltb x.sender k g, le-leb k x.sender g))
+    (cases_lt x.sender k)
+next_with (i ∷ is) x k = ⊎_elim
+    (λ (e : i.sender < x.sender). rw (lt-ltb i.sender x.sender e) (⊎_elim
+    (λ (f : i.sender < k). rw (lt-ltb i.sender k f) (next_with is x k))
+    (λ (f : k ≤ i.sender). rw (le-ltb i.sender k f, le-leb k x.sender (omega arith)) (ap Some (let m : i.sender ≡ min x.sender i.sender = omega arith in m)))
+    (cases_lt i.sender k)))
+    (λ (e : x.sender ≤ i.sender). rw (le-ltb i.sender x.sender e) (⊎_elim
+    (λ (g : x.sender < k). rw (lt-ltb x.sender k g, lt-leb k x.sender g))
+    (λ (g : k ≤ x.sender). rw (le-ltb x.sender k g, le-leb k x.sender g, le-ltb i.sender k (omega arith)) (ap Some (let m : x.sender ≡ min x.sender i.sender = omega arith in m)))
+    (cases_lt x.sender k)))
+    (cases_lt i.sender x.sender)
+
+pub next_found : (ss : List Slot) (k : ℕ) → next_sender (by_sender ss) k ≡ reduce min (filter (λ n. leb k n) (map (λ (s : Slot). s.sender) ss))
+next_found [] k = refl
+next_found (s ∷ ss) k = next_with (by_sender ss) (slot_item s) k ∙ ⊎_elim
+    (λ (g : s.sender < k). rw (lt-leb k s.sender g) (next_found ss k))
+    (λ (g : k ≤ s.sender). rw (le-leb k s.sender g) (ap (smaller s.sender) (next_found ss k) ∙ sym (reduce_min s.sender (filter (λ n. leb k n) (map (λ (t : Slot). t.sender) ss)))))
+    (cases_lt s.sender k)
+
+-- ---- places of slots
+-- the slot at i has an item of the sender
+pub record InSlot (ss : List (Option Slot)) (s i : ℕ) : Type 0 where
+  pub slot : Slot
+  pub in_range : i < length ss
+  pub is : get_or ss i None ≡ Some slot
+  pub own : slot.sender ≡ s
+
+own_slot : (ss : List (Option Slot)) (s i : ℕ) (o : Option Slot) → i < length ss → get_or ss i None ≡ o → is_of s o ≡ true → InSlot ss s i
+own_slot ss s i None h e t = absurd (true≢false (sym t))
+own_slot ss s i (Some x) h e t = record { slot = x; in_range = h; is = e; own = eqb-true x.sender s t }
+
+pub in_slot : (ss : List (Option Slot)) (s i : ℕ) → position (is_of s) ss ≡ Some i → InSlot ss s i
+in_slot ss s i e = let k = position-Some (is_of s) ss i None e in own_slot ss s i (get_or ss i None) k.0 refl k.1
+
+pub held_in : (ss : List (Option Slot)) (s i : ℕ) → InSlot ss s i → holds (gathered ss) s ≡ true
+held_in ss s i k = ap (holds (gathered ss)) (sym k.own) ∙ held_at ss i k.slot k.is
+
+ltb-suc : (a b : ℕ) → ltb (1 + a) (suc b) ≡ ltb a b
+ltb-suc a b = ⊎_elim
+    (λ (l : a < b). lt-ltb (1 + a) (suc b) (omega arith) ∙ sym (lt-ltb a b l))
+    (λ (l : b ≤ a). le-ltb (1 + a) (suc b) (omega arith) ∙ sym (le-ltb a b l))
+    (cases_lt a b)
+
+holds_before : (ss : List (Option Slot)) (s : ℕ) → holds (gathered ss) s ≡ ltb (position_or_len (is_of s) ss) (length ss)
+holds_before [] s = refl
+holds_before (None ∷ ss) s = holds_before ss s ∙ sym (ltb-suc (position_or_len (is_of s) ss) (length ss))
+holds_before (Some x ∷ ss) s = holds_with (gathered ss) (slot_item x) s ∙ ⊎_elim
+    (λ (e : eqb x.sender s ≡ true). rw e (sym (lt-ltb 0 (suc (length ss)) (omega arith))))
+    (λ (e : eqb x.sender s ≡ false). rw e (holds_before ss s ∙ sym (ltb-suc (position_or_len (is_of s) ss) (length ss))))
+    (cases_Bool (eqb x.sender s))
+
+pub holds_place : (ss : List (Option Slot)) (s : ℕ) → holds (gathered ss) s ≡ is_some (position (is_of s) ss)
+holds_place ss s = holds_before ss s ∙ ways (ltb (position_or_len (is_of s) ss) (length ss))
+  where
+    ways : (b : Bool) → b ≡ is_some (cond b (Some (position_or_len (is_of s) ss)) None)
+    ways true = refl
+    ways false = refl
+
+-- there is an empty slot where there are fewer items than slots
+some_vacant : (ss : List (Option Slot)) → length (taken ss) < length ss → position_or_len is_none ss < length ss
+some_vacant [] h = h
+some_vacant (None ∷ ss) h = omega arith
+some_vacant (Some x ∷ ss) h = let k = some_vacant ss (omega arith) in omega arith
+
+pub vacant_is : (ss : List (Option Slot)) → length (gathered ss) < length ss → position is_none ss ≡ Some (position_or_len is_none ss)
+vacant_is ss h = rw (lt-ltb (position_or_len is_none ss) (length ss) (some_vacant ss (omega (arith, length_by_sender (taken ss)))))
+
+no_item : (o : Option Slot) → is_none o ≡ true → o ≡ None
+no_item None h = refl
+no_item (Some x) h = absurd (true≢false (sym h))
+
+pub vacant_slot : (ss : List (Option Slot)) (i : ℕ) → position is_none ss ≡ Some i → (i < length ss) × (get_or ss i None ≡ None)
+vacant_slot ss i e = let k = position-Some is_none ss i None e in (k.0, no_item (get_or ss i None) k.1)
+
+-- ---- a new inbox, and all slots aged
+pub none_taken : (ss : List (Option Slot)) → ((i : ℕ) → i < length ss → get_or ss i None ≡ None) → taken ss ≡ []
+none_taken [] h = refl
+none_taken (None ∷ ss) h = none_taken ss (λ i l. h (suc i) (omega arith))
+none_taken (Some x ∷ ss) h = absurd (none-some x (sym (h 0 (omega arith))))
+
+pub aged_all : (life : ℕ) (ss rs : List (Option Slot)) (i : ℕ) → length ss ≤ i → rs ≡ map (aged_slot life) (take i ss) ++ drop i ss → rs ≡ map (aged_slot life) ss
+aged_all life ss rs i h e = e ∙ rw (take_all i ss h, drop_all i ss h) (append-nil (map (aged_slot life) ss))

@@ -1,2 +1,3 @@
 mod Gathers
 mod SlotFacts
+mod Taken

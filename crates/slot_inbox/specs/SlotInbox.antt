@@ -1,13 +1,13 @@
 -- What a slot inbox holds. Assumes nothing.
-use Rattle.std.specs.Prelude.{◌*◌, List, [], ◌∷◌}
-use mathlib.Core.HLevel.{×_prop, Unit-prop, Π_prop}
+use Rattle.std.specs.Prelude.{◌*◌, List, [], ◌∷◌, Option}
+use mathlib.Core.HLevel.{×_prop, Unit-prop}
 use Rattle.std.proofs.Math.Logic.{∥∥₁_elim}
 use Rattle.std.proofs.Math.Bool.{Bool-set}
 use Rattle.inbox.specs.Contents.{Contents, Lawful, longest_item}
 use Rattle.inbox.specs.Law.{lawful_of}
 use Rattle.slot_inbox.specs.declared.slot.Slot.{Slot}
 use Rattle.slot_inbox.specs.declared.slot_inbox.SlotInbox.{SlotInbox}
-use Rattle.slot_inbox.specs.Slots.{gathered, Distinct}
+use Rattle.slot_inbox.specs.Slots.{taken, gathered, Apart, Distinct}
 
 -- its byte limit has room for the longest item of every sender
 abbrev pub contents : SlotInbox → Contents
@@ -21,9 +21,9 @@ contents p = record {
 pub slot_inbox_lawful : (p : SlotInbox) → Lawful (contents p)
 slot_inbox_lawful p = lawful_of (contents p) p.lawful
 
-distinct_prop : (ss : List Slot) → IsProp (Distinct ss)
-distinct_prop [] = Unit-prop
-distinct_prop (s ∷ ss) = ×_prop (Π_prop (λ _. Bool-set _ _)) (distinct_prop ss)
+apart_prop : (ss : List Slot) → IsProp (Apart ss)
+apart_prop [] = Unit-prop
+apart_prop (s ∷ ss) = ×_prop (Bool-set _ _) (apart_prop ss)
 
-pub distinct_of : (ss : List Slot) → ∥ Distinct ss ∥₁ → Distinct ss
-distinct_of ss k = ∥∥₁_elim k (distinct_prop ss) (λ x. x)
+pub distinct_of : (ss : List (Option Slot)) → ∥ Distinct ss ∥₁ → Distinct ss
+distinct_of ss k = ∥∥₁_elim k (apart_prop (taken ss)) (λ x. x)

@@ -1,51 +1,45 @@
 -- Items in slots, in any order. Assumes nothing.
-use Rattle.std.specs.Prelude.{◌≡◌, ℕ, ◌+◌, ◌<◌, ◌≤◌, true, false, cond, List, [], ◌∷◌, length, get_or, take, Some, None, Option, nat_lt, slice_index_or}
-use Rattle.inbox.specs.Contents.{Item, longest_item, most_senders, lasts}
+use Rattle.std.specs.Prelude.{◌≡◌, ℕ, ◌+◌, Bool, false, cond, ◌==◌, List, [], ◌∷◌, Some, None, Option}
+use Rattle.std.specs.List.{flat_map}
+use Rattle.std.specs.Option.{option_to_list}
+use Rattle.inbox.specs.Contents.{Item, lasts}
 use Rattle.inbox.specs.Calls.{with_item, holds}
 use Rattle.slot_inbox.specs.declared.slot.Slot.{Slot}
 
 -- the item that a slot holds
 abbrev pub slot_item : Slot → Item
-slot_item s = record { sender = s.sender; age = s.age; bytes = take s.len s.bytes }
+slot_item s = record { sender = s.sender; age = s.age; bytes = s.bytes.items }
 
--- the items of the slots, by rising sender
-abbrev pub gathered : List Slot → List Item
-gathered [] = []
-gathered (s ∷ ss) = cond s.held (with_item (gathered ss) (slot_item s)) (gathered ss)
+-- the slots that hold an item
+abbrev pub taken : List (Option Slot) → List Slot
+taken ss = flat_map option_to_list ss
+
+-- the items of these slots, by rising sender
+abbrev pub by_sender : List Slot → List Item
+by_sender [] = []
+by_sender (s ∷ ss) = with_item (by_sender ss) (slot_item s)
+
+abbrev pub gathered : List (Option Slot) → List Item
+gathered ss = by_sender (taken ss)
 
 -- no sender has two slots
-abbrev pub Distinct : List Slot → Type 0
-Distinct [] = Unit {0}
-Distinct (s ∷ ss) = (s.held ≡ true → holds (gathered ss) s.sender ≡ false) × Distinct ss
+abbrev pub Apart : List Slot → Type 0
+Apart [] = Unit {0}
+Apart (s ∷ ss) = (holds (by_sender ss) s.sender ≡ false) × Apart ss
 
--- a slot whose item is ended, and one whose item is older
-abbrev pub emptied : Slot → Slot
-emptied s = record { held = false; sender = s.sender; age = s.age; len = s.len; bytes = s.bytes }
+abbrev pub Distinct : List (Option Slot) → Type 0
+Distinct ss = Apart (taken ss)
 
+-- whether a slot holds an item of the sender
+abbrev pub is_of : ℕ → Option Slot → Bool
+is_of sender None = false
+is_of sender (Some s) = s.sender == sender
+
+-- a slot whose item is older
 abbrev pub older_slot : Slot → Slot
-older_slot s = record { held = s.held; sender = s.sender; age = s.age + 1; len = s.len; bytes = s.bytes }
+older_slot s = record s { age = s.age + 1 }
 
 -- a slot after the inbox has passed
-abbrev pub aged_slot : ℕ → Slot → Slot
-aged_slot life s = cond s.held (cond (lasts life (s.age + 1)) (older_slot s) (emptied s)) s
-
-abbrev pub empty_slot : Slot
-empty_slot = record { held = false; sender = 0; age = 0; len = 0; bytes = [] }
-
--- slot i holds an item of the sender
-pub record InSlot (ss : List Slot) (s i : ℕ) : Type 0 where
-  pub in_range : i < most_senders
-  pub held : (get_or ss i empty_slot).held ≡ true
-  pub own : (get_or ss i empty_slot).sender ≡ s
-
--- the length that a slot tells lies within its bytes
-abbrev pub Whole : Slot → Type 0
-Whole s = (s.len ≤ longest_item) × (s.len ≤ length s.bytes)
-
-abbrev pub AllWhole : List Slot → Type 0
-AllWhole ss = (k : ℕ) → k < most_senders → Whole (slice_index_or ss k empty_slot)
-
--- the smaller of a sender that is not below k and what was found
-abbrev pub smaller_of : ℕ → ℕ → Option ℕ → Option ℕ
-smaller_of x k None = cond (nat_lt x k) None (Some x)
-smaller_of x k (Some y) = cond (nat_lt x k) (Some y) (cond (nat_lt y x) (Some y) (Some x))
+abbrev pub aged_slot : ℕ → Option Slot → Option Slot
+aged_slot life None = None
+aged_slot life (Some s) = cond (lasts life (s.age + 1)) (Some (older_slot s)) None

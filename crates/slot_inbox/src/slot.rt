@@ -1,55 +1,60 @@
-ghost use Rattle.std.specs.Prelude.{◌≡◌, ◌≤◌, true, ◌++◌, length, drop};
+ghost use Rattle.std.specs.Prelude.{◌≡◌, ◌≤◌, ◌++◌, length, drop};
 ghost use Rattle.inbox.specs.Contents.{longest_item};
 ghost use Rattle.inbox.specs.Calls.{new_item};
-ghost use Rattle.slot_inbox.specs.Slots.{slot_item, Whole};
+ghost use Rattle.slot_inbox.specs.Slots.{slot_item, is_of as is_held, aged_slot};
 
-use inbox::limits::LONGEST_ITEM;
+use arrayvec::ArrayVec;
+use inbox::limits::{LONGEST_ITEM, Limits};
 
-/// Room for one item.
-#[derive(Clone, Copy)]
+/// A held item.
+#[derive(Drop)]
 pub struct Slot {
-    pub held: bool,
     pub sender: u16,
     pub age: u8,
-    pub len: u16,
-    pub bytes: [u8; LONGEST_ITEM],
+    pub bytes: ArrayVec<u8, LONGEST_ITEM>,
 }
 
 impl Slot {
-    /// A slot that holds nothing.
-    pub const EMPTY: Slot = Slot {
-        held: false,
-        sender: 0,
-        age: 0,
-        len: 0,
-        bytes: [0; LONGEST_ITEM],
-    };
-
     /// A slot that holds the item at age 0.
     pub fn new(sender: u16, item: &[u8]) -> Slot
         requires { length item.now ≤ longest_item }
-        ensures held { result.held ≡ true }
-        ensures whole { Whole result }
-        ensures keeps { slot_item result ≡ new_item sender item.now }
+        ensures { slot_item result ≡ new_item sender item.now }
     {
-        let len = item.len();
-        let mut bytes = [0; LONGEST_ITEM];
-        bytes[0..len].copy_from_slice(item);
+        let bytes = ArrayVec::try_from(item).unwrap();
         Slot {
-            held: true,
             sender,
             age: 0,
-            len: len as u16,
             bytes,
         }
     }
 
-    /// Copies the item to the buffer's front.
-    pub fn read(&self, buffer: &mut [u8])
-        requires { (self.now.len ≤ length buffer.old) × (self.now.len ≤ longest_item) }
-        ensures after { buffer.new ≡ (slot_item self.now).bytes ++ drop self.now.len buffer.old }
+    /// Copies the item to the buffer's front, and answers its length.
+    pub fn read(&self, buffer: &mut [u8]) -> usize
+        requires { longest_item ≤ length buffer.old }
+        ensures len { result ≡ length (slot_item self.now).bytes }
+        ensures after { buffer.new ≡ (slot_item self.now).bytes ++ drop result buffer.old }
     {
-        let len = self.len as usize;
-        buffer[0..len].copy_from_slice(&self.bytes[0..len]);
+        let bytes = self.bytes.as_slice();
+        buffer[..bytes.len()].copy_from_slice(bytes);
+        bytes.len()
     }
+}
+
+/// Raises the age of the slot's item by one, or ends it.
+pub fn age(slot: &mut Option<Slot>, limits: Limits)
+    ensures { slot.new ≡ aged_slot limits.life slot.old }
+{
+    if let Some(held) = slot {
+        match limits.older(held.age) {
+            Some(age) => held.age = age,
+            None => *slot = None,
+        }
+    }
+}
+
+/// Whether the slot holds an item of the sender.
+pub fn is_of(slot: &Option<Slot>, sender: u16) -> bool
+    ensures { result ≡ is_held sender slot.now }
+{
+    slot.as_ref().is_some_and(|held| held.sender == sender)
 }

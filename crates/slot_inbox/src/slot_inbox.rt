@@ -1,6 +1,6 @@
 ghost use Rattle.std.specs.Prelude.{◌≡◌, ◌*◌, length};
 ghost use Rattle.inbox.specs.Contents.{Lawful, longest_item, most_senders};
-ghost use Rattle.slot_inbox.specs.Slots.{gathered, Distinct, AllWhole};
+ghost use Rattle.slot_inbox.specs.Slots.{gathered, Distinct};
 
 use crate::slot::Slot;
 use inbox::limits::{Limits, MOST_SENDERS};
@@ -12,9 +12,8 @@ mod keeping;
 #[derive(Drop)]
 pub struct SlotInbox {
     limits: Limits,
-    slots: [Slot; MOST_SENDERS],
+    slots: [Option<Slot>; MOST_SENDERS],
     ghost full: { length slots ≡ most_senders },
     ghost lawful: { ∥ Lawful (record { sender_limit = limits.senders; byte_limit = longest_item * limits.senders; life = limits.life; items = gathered slots }) ∥₁ },
     ghost distinct: { ∥ Distinct slots ∥₁ },
-    ghost whole: { AllWhole slots },
 }

@@ -1,4 +1,4 @@
-ghost use Rattle.std.specs.Prelude.{◌≡◌};
+ghost use Rattle.std.specs.Prelude.{◌≡◌, ◌+◌, if◌then◌else◌};
 ghost use Rattle.refusal.specs.Outcomes.{mapped};
 ghost use Rattle.inbox.specs.Contents.{lasts as still_lasts};
 ghost use Rattle.inbox.specs.Limits.{pair, limits_checked};
@@ -12,13 +12,7 @@ impl Limits {
     pub fn check(senders: usize, life: usize) -> Result<Limits, Refusal>
         ensures { mapped pair result ≡ limits_checked senders life }
     {
-        if senders < 1 || senders > MOST_SENDERS {
-            return Err(Refusal {
-                cause: Cause::LimitRefused,
-                position: 0,
-            });
-        }
-        if life < 1 || life > LONGEST_LIFE {
+        if !(1..=MOST_SENDERS).contains(&senders) || !(1..=LONGEST_LIFE).contains(&life) {
             return Err(Refusal {
                 cause: Cause::LimitRefused,
                 position: 0,
@@ -49,5 +43,13 @@ impl Limits {
         ensures { result ≡ still_lasts self.life age }
     {
         age < self.life
+    }
+
+    /// The age after one more passing, or `None` where an item of this age ends at that.
+    pub fn older(self, age: u8) -> Option<u8>
+        ensures { result ≡ (if still_lasts self.life (age + 1) then Some (age + 1) else None) }
+    {
+        let older = age.checked_add(1)?;
+        self.lasts(older).then_some(older)
     }
 }

@@ -1,13 +1,11 @@
 ghost use Rattle.std.specs.Prelude.{◌≡◌, false};
 ghost use Rattle.inbox.specs.Calls.{IfRefused, put_answer, after_put, holds, after_remove, after_passing};
 ghost use Rattle.packed_inbox.specs.PackedInbox.{lent, contents, packed_inbox_lawful};
-ghost use Rattle.packed_inbox.specs.LentMemory.{laid_in, memory_after_passing};
+ghost use Rattle.packed_inbox.specs.LentMemory.{Rewrites, laid_in, memory_after_passing};
 
 use super::PackedInbox;
-use inbox::check_put::check_put;
 use inbox::inbox::Inbox;
-use inbox::limits::LONGEST_ITEM;
-use refusal::cause::Cause;
+use inbox::room::{Room, check_buffer};
 use refusal::refused::Refusal;
 
 impl<'a> Inbox for PackedInbox<'a> {
@@ -19,15 +17,16 @@ impl<'a> Inbox for PackedInbox<'a> {
         ensures value { result ≡ put_answer (contents self.old) sender item.now }
         ensures after { contents self.new ≡ after_put (contents self.old) sender item.now }
         ensures untouched { IfRefused result (self.new ≡ self.old) }
-        ensures memory { lent self.new ≡ laid_in (contents self.new).items (lent self.old) }
-        ensures lender { self.new.memory.bytes.ghost_name ≡ self.old.memory.bytes.ghost_name }
+        ensures memory { Rewrites self.old.memory self.new.memory (laid_in (contents self.new).items (lent self.old)) }
     {
-        let held = self.held(sender);
-        let count = self.count;
-        let sender_limit = self.limits.sender_limit();
-        let others = self.others(sender);
-        let byte_limit = self.memory.size();
-        check_put(item.len(), held, count, sender_limit, others, byte_limit)?;
+        let room = Room {
+            held: self.find(sender).is_some(),
+            count: self.table.len(),
+            sender_limit: self.limits.sender_limit(),
+            others: self.others(sender),
+            byte_limit: self.memory.size(),
+        };
+        room.check(item.len())?;
         let _ = self.remove(sender);
         self.insert(sender, item);
         Ok(())
@@ -37,8 +36,7 @@ impl<'a> Inbox for PackedInbox<'a> {
         ensures value { result ≡ holds (contents self.old).items sender }
         ensures after { contents self.new ≡ after_remove (contents self.old) sender }
         ensures untouched { result ≡ false → self.new ≡ self.old }
-        ensures memory { lent self.new ≡ laid_in (contents self.new).items (lent self.old) }
-        ensures lender { self.new.memory.bytes.ghost_name ≡ self.old.memory.bytes.ghost_name }
+        ensures memory { Rewrites self.old.memory self.new.memory (laid_in (contents self.new).items (lent self.old)) }
     {
         match self.find(sender) {
             Some(at) => {
@@ -51,20 +49,11 @@ impl<'a> Inbox for PackedInbox<'a> {
 
     fn next(&self, k: u16) -> Option<u16> {
         let at = self.lower_bound(k);
-        if at < self.count {
-            Some(self.table[at].sender)
-        } else {
-            None
-        }
+        self.table.get(at).map(|row| row.sender)
     }
 
     fn read(&self, sender: u16, buffer: &mut [u8]) -> Result<Option<usize>, Refusal> {
-        if buffer.len() < LONGEST_ITEM {
-            return Err(Refusal {
-                cause: Cause::BufferShort,
-                position: 0,
-            });
-        }
+        check_buffer(buffer.len())?;
         match self.find(sender) {
             Some(at) => {
                 let from = self.offset(at);
@@ -78,17 +67,18 @@ impl<'a> Inbox for PackedInbox<'a> {
 
     fn passing(&mut self)
         ensures after { contents self.new ≡ after_passing (contents self.old) }
-        ensures memory { lent self.new ≡ memory_after_passing (contents self.old) (lent self.old) }
-        ensures lender { self.new.memory.bytes.ghost_name ≡ self.old.memory.bytes.ghost_name }
+        ensures memory { Rewrites self.old.memory self.new.memory (memory_after_passing (contents self.old) (lent self.old)) }
     {
+        // Counted by hand: a row that ends leaves its place to the next one, and the bytes behind it move at once.
         let mut at = 0;
-        while at < self.count {
-            let age = self.table[at].age + 1;
-            if self.limits.lasts(age) {
-                self.raise(at);
-                at += 1;
-            } else {
-                self.end(at);
+        while at < self.table.len() {
+            let age = self.table[at].age;
+            match self.limits.older(age) {
+                Some(older) => {
+                    self.raise(at, older);
+                    at += 1;
+                }
+                None => self.end(at),
             }
         }
     }

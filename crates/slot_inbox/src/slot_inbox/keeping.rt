@@ -1,12 +1,13 @@
-ghost use Rattle.std.specs.Prelude.{◌≡◌, ◌*◌, ◌<◌, ◌≤◌, false, length, get_or, MatchOption, slice_index_or, slice_set};
+ghost use Rattle.std.specs.Prelude.{◌≡◌, ◌*◌, ◌<◌, ◌≤◌, ◌==◌, false, length, find, position, is_none, option_copied};
 ghost use Rattle.inbox.specs.Contents.{longest_item, most_senders, holding, empty_contents};
 ghost use Rattle.inbox.specs.Calls.{holds, with_item, new_item};
-ghost use Rattle.slot_inbox.specs.Slots.{InSlot, empty_slot, emptied, aged_slot};
+ghost use Rattle.slot_inbox.specs.Slots.{taken, is_of};
 ghost use Rattle.slot_inbox.specs.SlotInbox.{contents};
 
 use super::SlotInbox;
-use crate::slot::Slot;
-use inbox::limits::{Limits, MOST_SENDERS};
+use crate::slot::{self, Slot};
+use inbox::limits::Limits;
+use std::array;
 
 impl SlotInbox {
     /// An empty slot inbox.
@@ -15,56 +16,39 @@ impl SlotInbox {
     {
         SlotInbox {
             limits,
-            slots: [Slot::EMPTY; MOST_SENDERS],
+            slots: array::from_fn(|_| None),
         }
     }
 
     // The slot of the sender.
-    pub(super) fn find(&self, sender: u16) -> Option<usize>
-        ensures { MatchOption result (holds (contents self.now).items sender ≡ false) (λ i. InSlot self.now.slots sender i) }
+    pub(super) fn find(&self, sender: u16) -> Option<&Slot>
+        ensures { option_copied result ≡ find (λ s. s.sender == sender) (taken self.now.slots) }
     {
-        for i in 0..MOST_SENDERS {
-            if self.slots[i].held && self.slots[i].sender == sender {
-                return Some(i);
-            }
-        }
-        None
+        self.slots
+            .iter()
+            .flatten()
+            .find(|slot| slot.sender == sender)
     }
 
-    pub(super) fn held(&self, sender: u16) -> bool
-        ensures { result ≡ holds (contents self.now).items sender }
+    // Where the slot of the sender is.
+    pub(super) fn place(&self, sender: u16) -> Option<usize>
+        ensures { result ≡ position (is_of sender) self.now.slots }
     {
-        match self.find(sender) {
-            Some(_) => true,
-            None => false,
-        }
+        self.slots.iter().position(|slot| slot::is_of(slot, sender))
+    }
+
+    // A slot that holds nothing.
+    pub(super) fn vacant(&self) -> Option<usize>
+        ensures { result ≡ position is_none self.now.slots }
+    {
+        self.slots.iter().position(|slot| slot.is_none())
     }
 
     // How many senders are held.
     pub(super) fn count(&self) -> usize
         ensures { result ≡ length (contents self.now).items }
     {
-        let mut n = 0;
-        for i in 0..MOST_SENDERS {
-            if self.slots[i].held {
-                n += 1;
-            }
-        }
-        n
-    }
-
-    // A slot that holds nothing.
-    pub(super) fn vacant(&self) -> usize
-        requires { length (contents self.now).items < most_senders }
-        ensures row { result < most_senders }
-        ensures free { (get_or self.now.slots result empty_slot).held ≡ false }
-    {
-        for i in 0..MOST_SENDERS {
-            if !self.slots[i].held {
-                return i;
-            }
-        }
-        unreachable()
+        self.slots.iter().flatten().count()
     }
 
     // Adds an item of a sender that has none.
@@ -74,32 +58,7 @@ impl SlotInbox {
         requires short { length item.now ≤ longest_item }
         ensures { contents self.new ≡ holding (contents self.old) (with_item (contents self.old).items (new_item sender item.now)) }
     {
-        let at = self.vacant();
-        self.slots[at] = Slot::new(sender, item);
-    }
-
-    // Ends the slot's item.
-    pub(super) fn release(&mut self, at: usize)
-        requires { InSlot self.old.slots (get_or self.old.slots at empty_slot).sender at }
-        ensures after { self.new.slots ≡ slice_set self.old.slots at (emptied (slice_index_or self.old.slots at empty_slot)) }
-        ensures limits { self.new.limits ≡ self.old.limits }
-    {
-        self.slots[at].held = false;
-    }
-
-    // Raises the age of the slot's item, or ends it.
-    pub(super) fn age_slot(&mut self, at: usize)
-        requires { at < most_senders }
-        ensures after { self.new.slots ≡ slice_set self.old.slots at (aged_slot self.old.limits.life (slice_index_or self.old.slots at empty_slot)) }
-        ensures limits { self.new.limits ≡ self.old.limits }
-    {
-        if self.slots[at].held {
-            let age = self.slots[at].age + 1;
-            if self.limits.lasts(age) {
-                self.slots[at].age = age;
-            } else {
-                self.release(at);
-            }
-        }
+        let vacant = self.vacant().unwrap();
+        self.slots[vacant] = Some(Slot::new(sender, item));
     }
 }

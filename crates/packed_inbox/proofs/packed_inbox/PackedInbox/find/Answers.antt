@@ -1,28 +1,19 @@
-use Rattle.std.proofs.Common.{sym, ◌∙◌, subst, arith}
-use Rattle.std.proofs.lemmas.List.{take_all}
-use Rattle.inbox.specs.Search.{no_item}
-use Rattle.inbox.specs.Law.{lawful_of}
+use Rattle.std.proofs.Common.{length, subst, sym, rules}
+use Rattle.std.proofs.lemmas.List.Sorted.{answers_always}
+use Rattle.std.specs.List.Sorted.{IsBinarySearchResult, IsSearchInRange}
+use Rattle.std.specs.Ordering.{nat_cmp}
+use Rattle.inbox.specs.Search.{Finds}
 use Rattle.packed_inbox.specs.PackedInbox.{contents}
-use Rattle.inbox.proofs.Items.{Apart, apart_more, finds_some, finds_none}
-use Rattle.packed_inbox.proofs.PackedFacts.{length_items, sender_at}
+use Rattle.packed_inbox.proofs.Cuts.{sender}
+use Rattle.packed_inbox.proofs.PackedFacts.{found}
 use Rattle.packed_inbox.proofs.packed_inbox.PackedInbox.find.Goals as goal
-
-pub returns-then-self-i : goal.returns-then-self-i
-returns-then-self-i c =
-    let p = c.args.self.now in
-    let len = length_items p in
-    let s = sender_at p c.loop-i.i no_item c.loop-i-test.true in
-    record { row = c.loop-i-test.true; finds = finds_some (contents p).items c.args.sender c.loop-i.i no_item (lawful_of (contents p) p.lawful).rising (omega arith) c.loop-i.invariant (omega arith) }
-
-pub loop-i-preserved : goal.loop-i-preserved
-loop-i-preserved c =
-    let p = c.args.self.now in
-    let len = length_items p in
-    let s = sender_at p c.loop-i.i no_item c.loop-i-test.true in
-    apart_more c.args.sender (contents p).items c.loop-i.i no_item (omega arith) c.loop-i.invariant (λ e. c.if-self-i.false (sym s ∙ e))
 
 pub returns : goal.returns
 returns c =
     let p = c.args.self.now in
-    let len = length_items p in
-    record { row = tt; finds = finds_none (contents p).items c.args.sender (subst (Apart c.args.sender) (take_all c.loop-i.i (contents p).items (omega arith)) c.loop-i.invariant) }
+    let s = c.args.sender in
+    let r = c.binary_search_by_key.result in
+    let e = c.deref.ensures.0 in
+    subst (Finds (contents p).items s) (sym c.ok.ensures.value)
+    (found p s r (subst (λ es. IsSearchInRange r (length es)) e c.binary_search_by_key.ensures.bound)
+    (subst (λ es. IsBinarySearchResult (λ y. nat_cmp (sender y) s) es r) e (c.binary_search_by_key.ensures.position sender (answers_always _ _ _ (λ f a r g h. search rules)))))

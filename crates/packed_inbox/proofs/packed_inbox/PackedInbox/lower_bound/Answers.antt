@@ -1,28 +1,19 @@
-use Rattle.std.proofs.Common.{◌≡◌, length, get_or, take, subst, arith}
-use Rattle.inbox.specs.Search.{no_item}
-use Rattle.inbox.specs.Law.{lawful_of}
-use Rattle.packed_inbox.specs.PackedInbox.{contents}
-use Rattle.inbox.proofs.Items.{bound_here, bound_end, below_more, Below}
-use Rattle.packed_inbox.proofs.PackedFacts.{length_items, sender_at, blank}
+use Rattle.std.proofs.Common.{ltb, get_or, rules, tests, arith}
+use Rattle.std.proofs.lemmas.Bool.{ltb-true, ltb-false}
+use Rattle.std.proofs.lemmas.List.Sorted.{IsPartitionedBy-ltb, IsPartitionPoint-from_clause}
+use Rattle.packed_inbox.specs.PackedInbox.{rows, lent}
+use Rattle.packed_inbox.specs.declared.row.Row.{Row}
+use Rattle.packed_inbox.proofs.Cuts.{sender, bound_of}
+use Rattle.packed_inbox.proofs.PackedFacts.{rows_rise}
 use Rattle.packed_inbox.proofs.packed_inbox.PackedInbox.lower_bound.Goals as goal
-
-pub returns-then-self-i : goal.returns-then-self-i
-returns-then-self-i c =
-    let p = c.args.self.now in
-    let len : length (contents p).items ≡ p.count = length_items p in
-    let s : (get_or (contents p).items c.loop-i.i no_item).sender ≡ (get_or p.table c.loop-i.i blank).sender = sender_at p c.loop-i.i no_item (omega arith) in
-    record { row = omega arith; bound = bound_here (contents p).items c.args.sender c.loop-i.i no_item (lawful_of (contents p) p.lawful).rising (omega arith) c.loop-i.invariant (omega arith) }
-
-pub loop-i-preserved : goal.loop-i-preserved
-loop-i-preserved c =
-    let p = c.args.self.now in
-    let len : length (contents p).items ≡ p.count = length_items p in
-    let s : (get_or (contents p).items c.loop-i.i no_item).sender ≡ (get_or p.table c.loop-i.i blank).sender = sender_at p c.loop-i.i no_item (omega arith) in
-    below_more c.args.sender (contents p).items c.loop-i.i no_item (omega arith) c.loop-i.invariant (omega arith)
 
 pub returns : goal.returns
 returns c =
     let p = c.args.self.now in
-    let len : length (contents p).items ≡ p.count = length_items p in
-    let e : c.loop-i.i ≡ p.count = omega arith in
-    record { row = omega arith; bound = bound_end (contents p).items c.args.sender p.count len (subst (λ n. Below c.args.sender (take n (contents p).items)) e c.loop-i.invariant) }
+    let s = c.args.sender in
+    let i = c.partition_point.result in
+    let e = c.deref.ensures.0 in
+    let k = IsPartitionPoint-from_clause (λ (r : Row). ltb (sender r) s) (rows p) i (rw e at c.partition_point.ensures.partitioned) (IsPartitionedBy-ltb sender (rows p) s (rows_rise p)) (λ a r q k. search (rules, tests)) in
+    bound_of (rows p) (lent p) s i (rw e at c.partition_point.ensures.bound)
+    (λ j d l. ltb-true (sender (get_or (rows p) j d)) s (k.0 j d (omega arith) l))
+    (λ j d b l. ltb-false (sender (get_or (rows p) j d)) s (k.1 j d b l))

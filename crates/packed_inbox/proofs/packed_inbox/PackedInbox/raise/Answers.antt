@@ -1,33 +1,34 @@
-use Rattle.std.proofs.Common.{◌+◌, get_or, sym, refl, subst, arith}
-use Rattle.std.proofs.lemmas.Bool.{ltb-true}
+use Rattle.std.proofs.Common.{◌≡◌, ℕ, List, length, get_or, set, sym, refl, ap, ◌∙◌, subst}
 use Rattle.std.proofs.lemmas.List.{length-set}
 use Rattle.inbox.specs.Contents.{Lawful}
-use Rattle.inbox.specs.Search.{no_item}
 use Rattle.inbox.specs.Law.{same_contents}
-use Rattle.packed_inbox.specs.PackedInbox.{contents}
-use Rattle.packed_inbox.proofs.PackedFacts.{raises, age_at}
+use Rattle.arrayvec.specs.ArrayVec.{with_items}
+use Rattle.arrayvec.proofs.ArrayVecLemmas.{items-with_items}
+use Rattle.packed_inbox.specs.Rows.{cut}
+use Rattle.packed_inbox.specs.PackedInbox.{rows, lent, contents}
+use Rattle.packed_inbox.specs.declared.row.Row.{Row}
+use Rattle.packed_inbox.specs.declared.packed_inbox.PackedInbox.{PackedInbox}
+use Rattle.packed_inbox.proofs.PackedFacts.{raises, aged_row, blank}
 use Rattle.packed_inbox.proofs.packed_inbox.PackedInbox.raise.Goals as goal
 
-pub overflow_add-row : goal.overflow_add-row
-overflow_add-row c =
-    let p = c.args.self.now in
-    let a = age_at p c.args.at no_item c.requires.row in
-    omega (arith, ltb-true ((get_or (contents p).items c.args.at no_item).age + 1) (contents p).life c.requires.young, p.limits.short)
+-- the table after the write
+written : (p : PackedInbox) (at age : ℕ) (es : List Row) → es ≡ rows p
+    → (with_items p.table (set es at (aged_row (get_or es at blank) age))).items ≡ set (rows p) at (aged_row (get_or (rows p) at blank) age)
+written p at age es e =
+    items-with_items p.table (set es at (aged_row (get_or es at blank) age)) (simp length-set (ap length e)) ∙ ap (λ l. set l at (aged_row (get_or l at blank) age)) e
 
 pub invariant_of-self : goal.invariant_of-self
 invariant_of-self c =
     let p = c.args.self.now in
-    let k = raises p c.args.at c.requires.row c.requires.young in
+    let k = raises p c.args.at c.args.age c.requires.row c.requires.older c.requires.young in
+    let e = written p c.args.at c.args.age c.deref_mut.result.now c.deref_mut.ensures.value in
     record {
-      full = simp length-set p.full;
-      within = p.within;
-      spans = k.spans;
-      lawful = ∣ subst Lawful (sym (same_contents (contents p) refl k.items)) k.lawful ∣₁;
+      spans = rw e k.spans;
+      lawful = ∣ subst Lawful (sym (same_contents (contents p) refl (ap (λ es. cut es (lent p)) e ∙ k.items))) k.lawful ∣₁;
     }
 
-pub returns : goal.returns
-returns c = record {
-  after = same_contents (contents c.args.self.now) refl (raises c.args.self.now c.args.at c.requires.row c.requires.young).items;
-  memory = refl;
-  lender = refl;
-}
+pub returns-clause-after : goal.returns-clause-after
+returns-clause-after c =
+    let p = c.args.self.now in
+    let k = raises p c.args.at c.args.age c.requires.row c.requires.older c.requires.young in
+    same_contents (contents p) refl (ap (λ es. cut es (lent p)) (written p c.args.at c.args.age c.deref_mut.result.now c.deref_mut.ensures.value) ∙ k.items)

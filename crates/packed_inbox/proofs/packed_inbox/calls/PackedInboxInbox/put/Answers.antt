@@ -8,25 +8,27 @@ use Rattle.packed_inbox.specs.PackedInbox.{lent, contents}
 use Rattle.inbox.proofs.Items.{Admitted, admitted, free_without, when_refused, bytes_held_with}
 use Rattle.packed_inbox.specs.LentMemory.{laid_in}
 use Rattle.packed_inbox.proofs.LaidIn.{laid_twice}
-use Rattle.packed_inbox.proofs.PackedFacts.{length_items, laid_as_it_stood}
+use Rattle.packed_inbox.proofs.PackedFacts.{length_items, held_found, laid_as_it_stood}
 use Rattle.packed_inbox.proofs.packed_inbox.calls.PackedInboxInbox.put.Goals as goal
-use Rattle.packed_inbox.proofs.packed_inbox.calls.PackedInboxInbox.put.Goals.{After-check_put}
+use Rattle.packed_inbox.proofs.packed_inbox.calls.PackedInboxInbox.put.Goals.{After-check}
 
-answer : (c : goal.After-check_put) → c.check_put.result ≡ put_answer (contents c.args.self.now) c.args.sender c.args.item.now
+held : (c : goal.After-check) → c.is_some.result ≡ holds (contents c.args.self.now).items c.args.sender
+held c = c.is_some.ensures ∙ sym (held_found (contents c.args.self.now).items c.args.sender c.find.result c.find.ensures)
+
+answer : (c : goal.After-check) → c.check.result ≡ put_answer (contents c.args.self.now) c.args.sender c.args.item.now
 answer c =
     let p = c.args.self.now in
-    c.check_put.ensures ∙ (λ i. put_checked (length c.args.item.now) (c.held-held.ensures i) (sym (length_items p) i) (c.sender_limit-sender_limit.ensures i) (c.others-others.ensures i) (c.size-byte_limit.ensures i))
+    c.check.ensures ∙ (λ i. put_checked (length c.args.item.now) (held c i) ((c.len.ensures.value ∙ sym (length_items p)) i) (c.sender_limit.ensures i) (c.others.ensures i) (c.size.ensures i))
 
-pub returns-in_err-check_put : goal.returns-in_err-check_put
-returns-in_err-check_put c =
+pub returns-in_err-check : goal.returns-in_err-check
+returns-in_err-check c =
     let p = err_from_is_err_and c.from_residual.result c.from_residual.ensures.1 in
-    let v = p.1 ∙ ap (λ (e : Refusal). Err e) p.2 ∙ sym c.in_err-check_put.was ∙ answer (goal.at.returns-in_err-check_put c).After-check_put in
+    let v = p.1 ∙ ap (λ (e : Refusal). Err e) p.2 ∙ sym c.in_err-check.was ∙ answer (goal.at.returns-in_err-check c).After-check in
     record {
       value = v;
       after = sym (ap (λ r. put_so r (contents c.args.self.now) c.args.sender c.args.item.now) (sym v ∙ p.1));
       untouched = when_refused c.from_residual.result refl;
-      memory = laid_as_it_stood c.args.self.now;
-      lender = refl;
+      memory = record { lender = refl; after = laid_as_it_stood c.args.self.now };
     }
 
 pub insert-requires : goal.insert-requires
@@ -35,7 +37,7 @@ insert-requires c =
     let s = c.args.sender in
     let x = c.args.item.now in
     let gone = c.remove.ensures.after in
-    let a : Admitted (contents p) s x = admitted (contents p) s x (lawful_of (contents p) p.lawful) (sym (answer (goal.at.insert-requires c).After-check_put) ∙ c.in_ok-check_put.was) in
+    let a : Admitted (contents p) s x = admitted (contents p) s x (lawful_of (contents p) p.lawful) (sym (answer (goal.at.insert-requires c).After-check) ∙ c.in_ok-check.was) in
     record {
       free = ap (λ (b : Contents). holds b.items s) gone ∙ free_without (contents p).items s;
       few = subst (λ (b : Contents). length b.items < b.sender_limit) (sym gone) a.few;
@@ -48,7 +50,7 @@ returns c =
     let p = c.args.self.now in
     let s = c.args.sender in
     let x = c.args.item.now in
-    let k = sym (answer (goal.at.returns c).After-check_put) ∙ c.in_ok-check_put.was in
+    let k = sym (answer (goal.at.returns c).After-check) ∙ c.in_ok-check.was in
     let q = c.remove.new.self in
     let is = (contents q).items in
     let js = with_item is (new_item s x) in
@@ -58,7 +60,9 @@ returns c =
       after = c.insert.ensures.after ∙ ap (λ (b : Contents). holding b (with_item b.items (new_item s x))) c.remove.ensures.after
           ∙ sym (ap (λ r. put_so r (contents p) s x) k);
       untouched = tt;
-      memory = c.insert.ensures.memory ∙ ap (laid_in js) c.remove.ensures.memory ∙ laid_twice is js (lent p) (omega arith)
-          ∙ sym (ap (λ (b : Contents). laid_in b.items (lent p)) c.insert.ensures.after);
-      lender = c.insert.ensures.lender ∙ c.remove.ensures.lender;
+      memory = record {
+        lender = c.insert.ensures.memory.lender ∙ c.remove.ensures.memory.lender;
+        after = c.insert.ensures.memory.after ∙ ap (laid_in js) c.remove.ensures.memory.after ∙ laid_twice is js (lent p) (omega arith)
+            ∙ sym (ap (λ (b : Contents). laid_in b.items (lent p)) c.insert.ensures.after);
+      };
     }

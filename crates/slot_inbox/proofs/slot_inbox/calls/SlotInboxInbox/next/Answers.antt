@@ -1,39 +1,21 @@
-use Rattle.std.proofs.Common.{◌≡◌, ◌+◌, ◌-◌, get_or, drop, sym, ap, ◌∙◌, arith}
-use Rattle.std.proofs.lemmas.List.{drop_all}
-use Rattle.inbox.specs.Calls.{next_sender}
-use Rattle.slot_inbox.specs.Slots.{gathered, empty_slot, smaller_of}
-use Rattle.slot_inbox.proofs.Gathers.{next_drop, drop_free}
+use Rattle.std.proofs.Common.{leb, sym, ap, ◌∙◌, rules, tests}
+use Rattle.std.specs.Slice.Iter.{iter_rest}
+use Rattle.std.proofs.lemmas.Iterator.{YieldsList-from_map}
+use Rattle.std.proofs.lemmas.Iterator.Adapters.{option_map_id}
+use Rattle.std.proofs.lemmas.Iterator.Consumers.{YieldsList-at, YieldsList-from_filter, min_from_yields_List}
+use Rattle.slot_inbox.specs.declared.slot.Slot.{Slot}
+use Rattle.slot_inbox.specs.Slots.{taken}
+use Rattle.slot_inbox.proofs.Gathers.{next_found}
+use Rattle.slot_inbox.proofs.Taken.{gives_taken}
 use Rattle.slot_inbox.proofs.slot_inbox.calls.SlotInboxInbox.next.Goals as goal
 
-pub loop-i-init : goal.loop-i-init
-loop-i-init c =
-    let p = c.args.self.now in
-    let f = p.full in
-    (omega arith, sym (ap (λ l. next_sender (gathered l) c.args.k) (drop_all 16 p.slots (omega arith))))
-
-pub loop-i-preserved-then-self-i : goal.loop-i-preserved-then-self-i
-loop-i-preserved-then-self-i c =
-    let p = c.args.self.now in
-    let f = p.full in
-    let v = c.loop-i.invariant.0 in
-    let t = c.loop-i-test.true in
-    let i = c.loop-i.i - 1 in
-    let up : i + 1 ≡ c.loop-i.i = omega arith in (
-      omega arith,
-      c.smaller-found.ensures
-          ∙ ap (smaller_of (get_or p.slots i empty_slot).sender c.args.k) (c.loop-i.invariant.1 ∙ ap (λ n. next_sender (gathered (drop n p.slots)) c.args.k) (sym up))
-          ∙ sym (next_drop p.slots i c.args.k (omega arith) c.if-self-i.true),
-    )
-
-pub loop-i-preserved : goal.loop-i-preserved
-loop-i-preserved c =
-    let p = c.args.self.now in
-    let f = p.full in
-    let v = c.loop-i.invariant.0 in
-    let t = c.loop-i-test.true in
-    let i = c.loop-i.i - 1 in
-    let up : i + 1 ≡ c.loop-i.i = omega arith in (
-      omega arith,
-      c.loop-i.invariant.1 ∙ ap (λ n. next_sender (gathered (drop n p.slots)) c.args.k) (sym up)
-          ∙ sym (ap (λ l. next_sender l c.args.k) (drop_free p.slots i empty_slot (omega arith) c.if-self-i.false)),
-    )
+pub returns : goal.returns
+returns c =
+    let ss = c.args.self.now.slots in
+    sym (option_map_id c.min.result)
+    ∙ min_from_yields_List c.filter.result c.min.result c.min.ensures.ran
+    (YieldsList-from_filter _ (λ n. leb c.args.k n) (YieldsList-at c.filter.ensures.source
+    (YieldsList-from_map _ (λ (s : Slot). s.sender) (YieldsList-at c.map.ensures.source
+    (gives_taken _ (λ s j b. (b.0, b.1)) c.flatten.result ss (ap iter_rest c.flatten.ensures.source ∙ c.iter.ensures.rest) c.flatten.ensures.front c.flatten.ensures.back c.flatten.ensures.done))
+    c.map.ensures.closure (λ x r q k. search (rules, tests)))) c.filter.ensures.closure (λ x r q k. search (rules, tests)))
+    ∙ sym (next_found (taken ss) c.args.k)

@@ -1,22 +1,27 @@
 use Rattle.std.proofs.Common.{◌≡◌, ◌<◌, length, Err, sym, refl, ap, ◌∙◌, subst}
 use Rattle.std.proofs.lemmas.Result.{err_from_is_err_and}
+use Rattle.std.specs.Option.{is_some}
 use Rattle.inbox.specs.Contents.{Contents, holding, longest_item}
 use Rattle.inbox.specs.Calls.{put_checked, holds, with_item, new_item, put_answer, put_so}
 use Rattle.refusal.specs.declared.refused.Refusal.{Refusal}
 use Rattle.slot_inbox.specs.SlotInbox.{contents, slot_inbox_lawful}
 use Rattle.inbox.proofs.Items.{Admitted, admitted, free_without, when_refused, put_checked_slots}
+use Rattle.slot_inbox.proofs.Gathers.{holds_place}
 use Rattle.slot_inbox.proofs.slot_inbox.calls.SlotInboxInbox.put.Goals as goal
-use Rattle.slot_inbox.proofs.slot_inbox.calls.SlotInboxInbox.put.Goals.{After-check_put}
+use Rattle.slot_inbox.proofs.slot_inbox.calls.SlotInboxInbox.put.Goals.{After-check}
 
-answer : (c : goal.After-check_put) → c.check_put.result ≡ put_answer (contents c.args.self.now) c.args.sender c.args.item.now
+held : (c : goal.After-check) → c.is_some.result ≡ holds (contents c.args.self.now).items c.args.sender
+held c = c.is_some.ensures ∙ ap is_some c.place.ensures ∙ sym (holds_place c.args.self.now.slots c.args.sender)
+
+answer : (c : goal.After-check) → c.check.result ≡ put_answer (contents c.args.self.now) c.args.sender c.args.item.now
 answer c =
     let p = c.args.self.now in
-    c.check_put.ensures ∙ (λ i. put_checked (length c.args.item.now) (c.held-held.ensures i) (c.count-count.ensures i) (c.sender_limit-sender_limit.ensures i) 0 longest_item) ∙ put_checked_slots (contents p) c.args.sender c.args.item.now (slot_inbox_lawful p) refl
+    c.check.ensures ∙ (λ i. put_checked (length c.args.item.now) (held c i) (c.count.ensures i) (c.sender_limit.ensures i) 0 longest_item) ∙ put_checked_slots (contents p) c.args.sender c.args.item.now (slot_inbox_lawful p) refl
 
-pub returns-in_err-check_put : goal.returns-in_err-check_put
-returns-in_err-check_put c =
+pub returns-in_err-check : goal.returns-in_err-check
+returns-in_err-check c =
     let p = err_from_is_err_and c.from_residual.result c.from_residual.ensures.1 in
-    let v = p.1 ∙ ap (λ (e : Refusal). Err e) p.2 ∙ sym c.in_err-check_put.was ∙ answer (goal.at.returns-in_err-check_put c).After-check_put in
+    let v = p.1 ∙ ap (λ (e : Refusal). Err e) p.2 ∙ sym c.in_err-check.was ∙ answer (goal.at.returns-in_err-check c).After-check in
     record {
       value = v;
       after = sym (ap (λ r. put_so r (contents c.args.self.now) c.args.sender c.args.item.now) (sym v ∙ p.1));
@@ -29,7 +34,7 @@ insert-requires c =
     let s = c.args.sender in
     let x = c.args.item.now in
     let gone = c.remove.ensures.after in
-    let a : Admitted (contents p) s x = admitted (contents p) s x (slot_inbox_lawful p) (sym (answer (goal.at.insert-requires c).After-check_put) ∙ c.in_ok-check_put.was) in
+    let a : Admitted (contents p) s x = admitted (contents p) s x (slot_inbox_lawful p) (sym (answer (goal.at.insert-requires c).After-check) ∙ c.in_ok-check.was) in
     record {
       free = ap (λ (b : Contents). holds b.items s) gone ∙ free_without (contents p).items s;
       few = subst (λ (b : Contents). length b.items < b.sender_limit) (sym gone) a.few;
@@ -40,7 +45,7 @@ pub returns : goal.returns
 returns c =
     let s = c.args.sender in
     let x = c.args.item.now in
-    let k = sym (answer (goal.at.returns c).After-check_put) ∙ c.in_ok-check_put.was in
+    let k = sym (answer (goal.at.returns c).After-check) ∙ c.in_ok-check.was in
     record {
       value = sym k;
       after = c.insert.ensures ∙ ap (λ (b : Contents). holding b (with_item b.items (new_item s x))) c.remove.ensures.after

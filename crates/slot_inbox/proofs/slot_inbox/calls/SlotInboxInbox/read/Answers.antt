@@ -1,42 +1,39 @@
-use Rattle.std.proofs.Common.{◌≡◌, ℕ, false, ltb, List, ◌++◌, length, get_or, drop, Some, Ok, Option, sym, ap, ◌∙◌, arith}
-use Rattle.inbox.specs.Contents.{longest_item}
-use Rattle.refusal.specs.declared.cause.Cause.TheVariants.{BufferShort}
-use Rattle.refusal.specs.Outcomes.{refuse}
-use Rattle.std.proofs.lemmas.Bool.{le-ltb, cond-false}
-use Rattle.inbox.specs.Calls.{found_length, at_front, bytes_of}
-use Rattle.slot_inbox.specs.Slots.{gathered, slot_item, empty_slot}
-use Rattle.inbox.proofs.Items.{apart_not_held, bytes_of_apart}
-use Rattle.slot_inbox.proofs.SlotFacts.{bytes_slot, length_slot}
+use Rattle.std.proofs.Common.{◌≡◌, ℕ, ◌++◌, drop, Some, None, Ok, Err, sym, ap, ◌∙◌}
+use Rattle.std.proofs.lemmas.Result.{err_from_is_err_and}
+use Rattle.std.specs.Option.{option_map}
+use Rattle.refusal.specs.declared.refused.Refusal.{Refusal}
+use Rattle.inbox.specs.Calls.{bytes_of}
+use Rattle.inbox.proofs.Items.{read_refused, read_taken}
+use Rattle.slot_inbox.specs.Slots.{taken, gathered, slot_item}
+use Rattle.slot_inbox.specs.SlotInbox.{contents}
+use Rattle.slot_inbox.specs.declared.slot.Slot.{Slot}
+use Rattle.slot_inbox.proofs.Gathers.{bytes_found}
 use Rattle.slot_inbox.proofs.slot_inbox.calls.SlotInboxInbox.read.Goals as goal
+
+pub returns-in_err-check_buffer : goal.returns-in_err-check_buffer
+returns-in_err-check_buffer c =
+    let p = err_from_is_err_and c.from_residual.result c.from_residual.ensures.1 in
+    let k = read_refused (contents c.args.self.now) c.args.sender c.args.buffer.now p.0 (sym c.check_buffer.ensures ∙ c.in_err-check_buffer.was ∙ ap (λ (e : Refusal). Err e) (sym p.2)) in
+    record { value = p.1 ∙ k.0; after = k.1 }
 
 pub returns-in-Some : goal.returns-in-Some
 returns-in-Some c =
     let p = c.args.self.now in
-    let buf = c.args.buffer.now in
-    let k = c.in-Some.ensures in
-    let t : ltb (length buf) longest_item ≡ false = le-ltb (length buf) longest_item (omega arith) in
-    let f = bytes_slot p c.args.sender c.in-Some.at k in
-    let l = length_slot p c.args.sender c.in-Some.at k in
-    let x = (slot_item (get_or p.slots c.in-Some.at empty_slot)).bytes in
+    let buffer = c.args.buffer.now in
+    let s = c.args.sender in
+    let x = (slot_item c.in-Some.slot.now).bytes in
+    let f : bytes_of (gathered p.slots) s ≡ Some x = bytes_found (taken p.slots) s ∙ sym (ap (option_map (λ (y : Slot). (slot_item y).bytes)) c.in-Some.ensures) in
+    let k = read_taken (contents p) s buffer (Some x) f (sym c.check_buffer.ensures ∙ c.in_ok-check_buffer.was) in
+    let l = c.read.ensures.len in
     record {
-      value = sym (cond-false (ltb (length buf) longest_item) (refuse BufferShort 0) (Ok (found_length (bytes_of (gathered p.slots) c.args.sender))) t
-          ∙ ap (λ (o : Option (List ℕ)). Ok (found_length o)) f ∙ ap (λ (n : ℕ). Ok (Some n)) l);
-      after = c.read.ensures.after
-          ∙ sym (cond-false (ltb (length buf) longest_item) buf (at_front (bytes_of (gathered p.slots) c.args.sender) buf) t
-          ∙ ap (λ (o : Option (List ℕ)). at_front o buf) f
-          ∙ ap (λ n. x ++ drop n buf) l);
+      value = ap (λ (n : ℕ). Ok (Some n)) l ∙ k.0;
+      after = c.read.ensures.after ∙ ap (λ n. x ++ drop n buffer) l ∙ k.1;
     }
 
 pub returns-in-None : goal.returns-in-None
 returns-in-None c =
     let p = c.args.self.now in
-    let buf = c.args.buffer.now in
-    let k = c.in-None.ensures in
-    let t : ltb (length buf) longest_item ≡ false = le-ltb (length buf) longest_item (omega arith) in
-    let f = bytes_of_apart (gathered p.slots) c.args.sender (apart_not_held c.args.sender (gathered p.slots) k) in
-    record {
-      value = sym (cond-false (ltb (length buf) longest_item) (refuse BufferShort 0) (Ok (found_length (bytes_of (gathered p.slots) c.args.sender))) t
-          ∙ ap (λ (o : Option (List ℕ)). Ok (found_length o)) f);
-      after = sym (cond-false (ltb (length buf) longest_item) buf (at_front (bytes_of (gathered p.slots) c.args.sender) buf) t
-          ∙ ap (λ (o : Option (List ℕ)). at_front o buf) f);
-    }
+    let s = c.args.sender in
+    let f : bytes_of (gathered p.slots) s ≡ None = bytes_found (taken p.slots) s ∙ sym (ap (option_map (λ (y : Slot). (slot_item y).bytes)) c.in-None.ensures) in
+    let k = read_taken (contents p) s c.args.buffer.now None f (sym c.check_buffer.ensures ∙ c.in_ok-check_buffer.was) in
+    record { value = k.0; after = k.1 }
