@@ -41,35 +41,23 @@ pub enum Making {
 // Why a line was not played to its end.
 #[derive(Debug, Drop, Error)]
 enum PlayError {
-    #[error("{0}")]
-    Refused(Refusal),
-    #[error("{0}")]
-    Unread(LineError),
+    #[error(transparent)]
+    Refused(#[from] Refusal),
+    #[error(transparent)]
+    Unreadable(LineError),
     #[error("no program was accepted yet")]
     NoProgram,
     #[error("there is no inbox yet")]
     NoInbox,
-    #[error("{0}")]
-    Io(io::Error),
-}
-
-impl From<Refusal> for PlayError {
-    fn from(r: Refusal) -> PlayError {
-        PlayError::Refused(r)
-    }
-}
-
-impl From<io::Error> for PlayError {
-    fn from(e: io::Error) -> PlayError {
-        PlayError::Io(e)
-    }
+    #[error(transparent)]
+    Io(#[from] io::Error),
 }
 
 impl From<LineError> for PlayError {
     fn from(e: LineError) -> PlayError {
         match e {
             LineError::Memory(e) => PlayError::Io(io::Error::from(e)),
-            e => PlayError::Unread(e),
+            e => PlayError::Unreadable(e),
         }
     }
 }
