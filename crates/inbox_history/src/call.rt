@@ -19,3 +19,21 @@ pub enum Answer {
     Sender(Option<u16>),
     Length(Option<usize>),
 }
+
+impl From<Result<(), Refusal>> for Answer {
+    fn from(put: Result<(), Refusal>) -> Answer {
+        match put {
+            Ok(()) => Answer::Done,
+            Err(refusal) => Answer::Refused(refusal),
+        }
+    }
+}
+
+impl From<Result<Option<usize>, Refusal>> for Answer {
+    fn from(read: Result<Option<usize>, Refusal>) -> Answer {
+        match read {
+            Ok(len) => Answer::Length(len),
+            Err(refusal) => Answer::Refused(refusal),
+        }
+    }
+}

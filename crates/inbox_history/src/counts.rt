@@ -3,7 +3,7 @@ use refusal::cause::Cause;
 use std::fmt;
 
 /// How often each call was made and each refusal was drawn, and how often answers or buffers differed.
-#[derive(Clone, Copy)]
+#[derive(Clone, Copy, Default)]
 pub struct Counts {
     put: u32,
     remove: u32,
@@ -19,20 +19,6 @@ pub struct Counts {
 }
 
 impl Counts {
-    pub const NONE: Counts = Counts {
-        put: 0,
-        remove: 0,
-        next: 0,
-        read: 0,
-        passing: 0,
-        item_too_long: 0,
-        senders_full: 0,
-        bytes_full: 0,
-        buffer_short: 0,
-        found: 0,
-        differences: 0,
-    };
-
     fn count_call(&mut self, call: Call) {
         match call {
             Call::Put { .. } => self.put = self.put.saturating_add(1),
@@ -75,25 +61,16 @@ impl Counts {
 
 impl fmt::Display for Counts {
     fn fmt<W: fmt::Write>(&self, f: &mut fmt::Formatter<W>) -> fmt::Result {
-        let put = self.put;
-        let remove = self.remove;
-        let next = self.next;
-        let read = self.read;
-        let passing = self.passing;
         write!(
             f,
-            "put {put}, remove {remove}, next {next}, read {read}, passing {passing}; "
+            "put {}, remove {}, next {}, read {}, passing {}; ",
+            self.put, self.remove, self.next, self.read, self.passing
         )?;
-        let long = self.item_too_long;
-        let senders = self.senders_full;
-        let bytes = self.bytes_full;
-        let short = self.buffer_short;
         write!(
             f,
-            "refused 27 {long}, 28 {senders}, 29 {bytes}, 31 {short}; "
+            "refused 27 {}, 28 {}, 29 {}, 31 {}; ",
+            self.item_too_long, self.senders_full, self.bytes_full, self.buffer_short
         )?;
-        let found = self.found;
-        let differences = self.differences;
-        write!(f, "found {found}; differences {differences}")
+        write!(f, "found {}; differences {}", self.found, self.differences)
     }
 }
