@@ -1,4 +1,5 @@
-ghost use Rattle.std.specs.Prelude.{◌≡◌, ◌<◌, ◌≤◌, length, IsSome, IfOk, if◌then◌else◌, nat_eq, slice_index};
+ghost use Rattle.std.specs.Prelude.{◌≡◌, IfOk, OnSome, if◌then◌else◌, nat_eq, slice_index};
+ghost use Rattle.std.specs.Iterator.{IsFinite, IsNearerEnd};
 ghost use Rattle.refusal.specs.Outcomes.{mapped};
 ghost use Rattle.kind.specs.Numbers.{numbers as meaning_of_numbers};
 ghost use Rattle.kind.specs.LabelSets.{label_sets};
@@ -6,7 +7,6 @@ ghost use Rattle.program.specs.Verdict.{verdict};
 ghost use Rattle.program.specs.Programs.{shown};
 
 use crate::kinds::BuiltIn;
-use crate::lines::Lines;
 use crate::show::{Accepted, Hex, Tree};
 use inbox::inbox::Inbox;
 use inbox::limits::Limits;
@@ -17,23 +17,23 @@ use program::check::check;
 use program::program::Program;
 use refusal::refused::Refusal;
 use script::line;
-use script::line::{Call, LineError};
+use script::line::{Call, InboxCall, LineError};
 use slot_inbox::slot_inbox::SlotInbox;
 use std::io;
 use thiserror::Error;
 use tree::message;
 
-/// The inbox of a script: none before it asks for one.
+// The inbox of a script: none before it asks for one.
 #[derive(Drop)]
-pub enum Made<'m> {
+enum Made<'m> {
     None,
     Slot(SlotInbox),
     Packed(PackedInbox<'m>),
 }
 
-/// An inbox that a script asks for.
+// An inbox that a script asks for.
 #[derive(Clone, Copy)]
-pub enum Making {
+enum Making {
     Slot(Limits),
     Packed(Limits, usize),
 }
@@ -131,35 +131,32 @@ impl<'a> Session<'a> {
     fn read<I: Inbox>(&self, inbox: &I, sender: u16, room: usize) -> Result<(), PlayError> {
         let mut buffer = vec![in self.rt.alloc(); 0u8; room].map_err(io::Error::from)?;
         match inbox.read(sender, buffer.as_mut_slice())? {
-            Some(n) => {
-                let item = buffer.as_slice().get(0..n).unwrap_or(&[]);
-                println!(self.rt; "read {sender}: {}", Hex(item))?;
-            }
+            Some(n) => println!(self.rt; "read {sender}: {}", Hex(&buffer.as_slice()[..n]))?,
             None => println!(self.rt; "{sender} was not held")?,
         }
         Ok(())
     }
 
     // A call on an inbox.
-    fn on_inbox<I: Inbox>(&self, inbox: &mut I, call: Call) -> Result<(), PlayError> {
+    fn on_inbox<I: Inbox>(&self, inbox: &mut I, call: InboxCall) -> Result<(), PlayError> {
         match call {
-            Call::Put(sender, item) => {
+            InboxCall::Put(sender, item) => {
                 inbox.put(sender, item.as_slice())?;
                 println!(self.rt; "put {sender}")?;
             }
-            Call::Remove(sender) => {
+            InboxCall::Remove(sender) => {
                 if inbox.remove(sender) {
                     println!(self.rt; "removed {sender}")?;
                 } else {
                     println!(self.rt; "{sender} was not held")?;
                 }
             }
-            Call::Next(k) => match inbox.next(k) {
+            InboxCall::Next(k) => match inbox.next(k) {
                 Some(sender) => println!(self.rt; "next {sender}")?,
                 None => println!(self.rt; "next none")?,
             },
-            Call::Read(sender, room) => self.read(inbox, sender, room)?,
-            _ => {
+            InboxCall::Read(sender, room) => self.read(inbox, sender, room)?,
+            InboxCall::Pass => {
                 inbox.passing();
                 println!(self.rt; "passed")?;
             }
@@ -185,7 +182,7 @@ impl<'a> Session<'a> {
             Call::PackedInbox(senders, life, room) => {
                 return Ok(Some(Making::Packed(self.make(senders, life)?, room)));
             }
-            call => match made {
+            Call::OnInbox(call) => match made {
                 Made::None => return Err(PlayError::NoInbox),
                 Made::Slot(inbox) => self.on_inbox(inbox, call)?,
                 Made::Packed(inbox) => self.on_inbox(inbox, call)?,
@@ -221,18 +218,44 @@ impl<'a> Session<'a> {
         }
     }
 
-    /// Plays lines over an inbox, until one asks for another inbox or none is left. Answers what is asked for.
-    pub fn play_lines(&mut self, made: &mut Made, lines: &mut Lines) -> io::Result<Option<Making>>
-        ensures within { length lines.new.rest.now ≤ length lines.old.rest.now }
-        ensures fewer { IfOk result (λ asked. IsSome asked → length lines.new.rest.now < length lines.old.rest.now) }
+    // Plays lines over an inbox, until one asks for another inbox or none is left. Answers what is asked for.
+    fn play_lines<'s, L: Iterator<Item = &'s [u8]>>(
+        &mut self,
+        made: &mut Made,
+        lines: &mut L,
+    ) -> io::Result<Option<Making>>
+        requires can { L.can_next lines.old }
+        requires ends { IsFinite (L.remaining lines.old) }
+        ensures { IfOk result (λ asked. OnSome asked (IsNearerEnd L.can_next L.remaining lines.old lines.new)) }
     {
-        while let Some(text) = lines.next_line() {
+        while let Some(text) = lines.next() {
             let asked = self.play_line(made, text)?;
             if asked.is_some() {
                 return Ok(asked);
             }
         }
         Ok(None)
+    }
+
+    /// Plays a script.
+    pub fn play_script(&mut self, script: &[u8]) -> io::Result<()> {
+        let mut lines = script.split(|b| *b == b'\n');
+        let mut asked = self.play_lines(&mut Made::None, &mut lines)?;
+        // An inbox and its memory live until a line asks for another.
+        while let Some(making) = asked {
+            asked = match making {
+                Making::Slot(limits) => {
+                    let mut made = Made::Slot(SlotInbox::new(limits));
+                    self.play_lines(&mut made, &mut lines)?
+                }
+                Making::Packed(limits, room) => {
+                    let mut memory = vec![in self.rt.alloc(); 0u8; room]?;
+                    let mut made = Made::Packed(PackedInbox::new(limits, memory.as_mut_slice()));
+                    self.play_lines(&mut made, &mut lines)?
+                }
+            };
+        }
+        Ok(())
     }
 
     /// Prints what was done.

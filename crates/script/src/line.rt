@@ -20,6 +20,13 @@ pub enum Call {
     SlotInbox(usize, usize),
     /// Make a packed inbox: sender limit, life and bytes of memory.
     PackedInbox(usize, usize, usize),
+    /// A call on the inbox that was made last.
+    OnInbox(InboxCall),
+}
+
+/// A call on an inbox.
+#[derive(Drop)]
+pub enum InboxCall {
     /// Put an item of a sender.
     Put(u16, Vec<u8>),
     /// End a sender's item.
@@ -140,15 +147,15 @@ pub fn read(heap: Global, line: &[u8]) -> Result<Option<Call>, LineError> {
         b"program" => Call::Program(words.last_bytes(heap)?),
         b"tree" => Call::Tree(words.node()?, words.last_bytes(heap)?),
         b"inbox" => words.inbox()?,
-        b"put" => Call::Put(words.node()?, words.last_bytes(heap)?),
-        b"remove" => Call::Remove(words.node()?),
-        b"next" => Call::Next(words.node()?),
-        // The buffer is as long as the longest item, if its length is not said.
-        b"read" => Call::Read(
+        b"put" => Call::OnInbox(InboxCall::Put(words.node()?, words.last_bytes(heap)?)),
+        b"remove" => Call::OnInbox(InboxCall::Remove(words.node()?)),
+        b"next" => Call::OnInbox(InboxCall::Next(words.node()?)),
+        b"read" => Call::OnInbox(InboxCall::Read(
             words.node()?,
+            // The buffer is as long as the longest item, if its length is not said.
             words.optional_number()?.unwrap_or(LONGEST_ITEM),
-        ),
-        b"pass" => Call::Pass,
+        )),
+        b"pass" => Call::OnInbox(InboxCall::Pass),
         _ => return Err(LineError::NoSuchCall),
     };
     words.end()?;
