@@ -1,4 +1,6 @@
-ghost use Rattle.std.specs.Prelude.{◌≡◌, [], MatchOption};
+ghost use Rattle.std.specs.Prelude.{◌≡◌, ◌≢◌, [], MatchOption, alloc_error};
+ghost use Rattle.hex.specs.declared.error.FromHexError.TheVariants.{OutOfMemory};
+ghost use Rattle.script.specs.declared.line.LineError.TheVariants.{Memory, NotHexadecimal};
 ghost use Rattle.script.specs.Script.{first_word, other_words};
 
 use crate::decimal::decimal;
@@ -63,6 +65,8 @@ pub enum LineError {
 }
 
 impl From<FromHexError> for LineError {
+    ghost from_gives = { λ e r. (e ≡ OutOfMemory → r ≡ Memory alloc_error) × (e ≢ OutOfMemory → r ≡ NotHexadecimal) };
+
     fn from(e: FromHexError) -> LineError {
         match e {
             FromHexError::OutOfMemory => LineError::Memory(AllocError),
