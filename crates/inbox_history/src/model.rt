@@ -24,11 +24,13 @@ impl Held {
     }
 }
 
-/// An inbox as plain as can be: for each sender of a history, how the item was told that it put.
+/// An inbox as plain as can be: for each sender of a history, how the item was told that it put. It has no bytes of
+/// items, so it is no `Inbox`.
 #[derive(Drop)]
 pub struct Model {
     limits: Limits,
     byte_limit: usize,
+    // By rising sender. An array and no map: a map can run out of memory, and a history cannot fail.
     held: [Option<Held>; senders::COUNT],
 }
 

@@ -5,6 +5,7 @@ ghost use Rattle.script.specs.Script.{decimal_value};
 pub fn decimal(word: &[u8]) -> Option<u32>
     ensures { result ≡ decimal_value 0 word.now }
 {
+    // `str::parse` would take a sign, and refuse the empty word.
     let mut n = 0u32;
     for b in word {
         let digit = match b {
