@@ -46,8 +46,8 @@ impl Generator {
         (LONGEST + self.below(37)) as usize
     }
 
-    // The next call.
-    fn call(&mut self) -> Call {
+    /// The next call.
+    pub fn call(&mut self) -> Call {
         match self.below(16) {
             0..=6 => Call::Put {
                 sender: self.sender(),
