@@ -1,3 +1,6 @@
+ghost use Rattle.std.specs.Prelude.{◌≡◌, MatchResult};
+ghost use Rattle.inbox_history.specs.declared.call.Answer.TheVariants.{Done, Refused, Length};
+
 use refusal::refused::Refusal;
 
 /// A call of a history. The item of a put is told by its length and its first byte, the buffer of a read by its length.
@@ -18,4 +21,26 @@ pub enum Answer {
     Held(bool),
     Sender(Option<u16>),
     Length(Option<usize>),
+}
+
+impl From<Result<(), Refusal>> for Answer {
+    ghost from_gives = { λ put answer. MatchResult put (λ _. answer ≡ Done) (λ refusal. answer ≡ Refused refusal) };
+
+    fn from(put: Result<(), Refusal>) -> Answer {
+        match put {
+            Ok(()) => Answer::Done,
+            Err(refusal) => Answer::Refused(refusal),
+        }
+    }
+}
+
+impl From<Result<Option<usize>, Refusal>> for Answer {
+    ghost from_gives = { λ read answer. MatchResult read (λ len. answer ≡ Length len) (λ refusal. answer ≡ Refused refusal) };
+
+    fn from(read: Result<Option<usize>, Refusal>) -> Answer {
+        match read {
+            Ok(len) => Answer::Length(len),
+            Err(refusal) => Answer::Refused(refusal),
+        }
+    }
 }

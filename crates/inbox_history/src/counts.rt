@@ -3,7 +3,7 @@ use refusal::cause::Cause;
 use std::fmt;
 
 /// How often each call was made and each refusal was drawn, and how often answers or buffers differed.
-#[derive(Clone, Copy)]
+#[derive(Clone, Copy, Default)]
 pub struct Counts {
     put: u32,
     remove: u32,
@@ -18,82 +18,60 @@ pub struct Counts {
     differences: u32,
 }
 
+fn count_one(n: &mut u32) {
+    *n = n.saturating_add(1);
+}
+
 impl Counts {
-    pub const NONE: Counts = Counts {
-        put: 0,
-        remove: 0,
-        next: 0,
-        read: 0,
-        passing: 0,
-        item_too_long: 0,
-        senders_full: 0,
-        bytes_full: 0,
-        buffer_short: 0,
-        found: 0,
-        differences: 0,
-    };
-
-    fn count_call(&mut self, call: Call) {
+    fn of_call(&mut self, call: Call) -> &mut u32 {
         match call {
-            Call::Put { .. } => self.put = self.put.saturating_add(1),
-            Call::Remove { .. } => self.remove = self.remove.saturating_add(1),
-            Call::Next { .. } => self.next = self.next.saturating_add(1),
-            Call::Read { .. } => self.read = self.read.saturating_add(1),
-            Call::Passing => self.passing = self.passing.saturating_add(1),
+            Call::Put { .. } => &mut self.put,
+            Call::Remove { .. } => &mut self.remove,
+            Call::Next { .. } => &mut self.next,
+            Call::Read { .. } => &mut self.read,
+            Call::Passing => &mut self.passing,
         }
     }
 
-    fn count_refusal(&mut self, cause: Cause) {
+    // Other refusals cannot come, so each counts as a difference.
+    fn of_refusal(&mut self, cause: Cause) -> &mut u32 {
         match cause {
-            Cause::ItemTooLong => self.item_too_long = self.item_too_long.saturating_add(1),
-            Cause::SendersFull => self.senders_full = self.senders_full.saturating_add(1),
-            Cause::BytesFull => self.bytes_full = self.bytes_full.saturating_add(1),
-            Cause::BufferShort => self.buffer_short = self.buffer_short.saturating_add(1),
-            _ => self.differences = self.differences.saturating_add(1),
-        }
-    }
-
-    fn count_answer(&mut self, answer: Answer) {
-        match answer {
-            Answer::Refused(refusal) => self.count_refusal(refusal.cause),
-            Answer::Held(true) => self.found = self.found.saturating_add(1),
-            Answer::Sender(Some(_)) => self.found = self.found.saturating_add(1),
-            Answer::Length(Some(_)) => self.found = self.found.saturating_add(1),
-            _ => {}
+            Cause::ItemTooLong => &mut self.item_too_long,
+            Cause::SendersFull => &mut self.senders_full,
+            Cause::BytesFull => &mut self.bytes_full,
+            Cause::BufferShort => &mut self.buffer_short,
+            _ => &mut self.differences,
         }
     }
 
     /// Counts a call, its answer, and whether all agreed on it.
     pub fn count(&mut self, call: Call, answer: Answer, agreed: bool) {
-        self.count_call(call);
-        self.count_answer(answer);
+        count_one(self.of_call(call));
+        match answer {
+            Answer::Refused(refusal) => count_one(self.of_refusal(refusal.cause)),
+            Answer::Held(true) | Answer::Sender(Some(_)) | Answer::Length(Some(_)) => {
+                count_one(&mut self.found)
+            }
+            _ => {}
+        }
         if !agreed {
-            self.differences = self.differences.saturating_add(1);
+            count_one(&mut self.differences);
         }
     }
 }
 
 impl fmt::Display for Counts {
     fn fmt<W: fmt::Write>(&self, f: &mut fmt::Formatter<W>) -> fmt::Result {
-        let put = self.put;
-        let remove = self.remove;
-        let next = self.next;
-        let read = self.read;
-        let passing = self.passing;
         write!(
             f,
-            "put {put}, remove {remove}, next {next}, read {read}, passing {passing}; "
+            "put {}, remove {}, next {}, read {}, passing {}; ",
+            self.put, self.remove, self.next, self.read, self.passing
         )?;
-        let long = self.item_too_long;
-        let senders = self.senders_full;
-        let bytes = self.bytes_full;
-        let short = self.buffer_short;
         write!(
             f,
-            "refused 27 {long}, 28 {senders}, 29 {bytes}, 31 {short}; "
+            "refused 27 {}, 28 {}, 29 {}, 31 {}; ",
+            self.item_too_long, self.senders_full, self.bytes_full, self.buffer_short
         )?;
-        let found = self.found;
-        let differences = self.differences;
-        write!(f, "found {found}; differences {differences}")
+        write!(f, "found {}; differences {}", self.found, self.differences)
     }
 }

@@ -69,3 +69,12 @@ impl Generator {
         }
     }
 }
+
+/// Calls without end.
+impl Iterator for Generator {
+    type Item = Call;
+
+    fn next(&mut self) -> Option<Call> {
+        Some(self.call())
+    }
+}

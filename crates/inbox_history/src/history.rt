@@ -1,4 +1,4 @@
-ghost use Rattle.std.specs.Prelude.{◌≡◌, ◌≤◌};
+ghost use Rattle.std.specs.Prelude.{◌≡◌};
 
 use crate::call::Call;
 use crate::counts::Counts;
@@ -11,20 +11,15 @@ use inbox::inbox::Inbox;
 // Longer than the longest item, so that a write behind an item shows.
 const BUFFER: usize = 2100;
 
-// How many bytes the item of the call has.
-fn item_len(call: Call) -> usize
-    ensures { result ≤ 2100 }
-{
+// The item of the call, at the front of the buffer.
+fn item(call: Call, buffer: &mut [u8]) -> &[u8] {
     match call {
-        Call::Put { len, .. } => len.min(BUFFER),
-        _ => 0,
-    }
-}
-
-fn first_byte(call: Call) -> u8 {
-    match call {
-        Call::Put { first, .. } => first,
-        _ => 0,
+        Call::Put { len, first, .. } => {
+            let len = len.min(buffer.len());
+            pattern::fill(buffer, len, first);
+            &buffer[..len]
+        }
+        _ => &[],
     }
 }
 
@@ -39,18 +34,15 @@ pub fn run<A: Inbox, B: Inbox>(
 ) -> Counts
     ensures { A.Inbox.meaning one.old ≡ B.Inbox.meaning two.old → A.Inbox.meaning one.new ≡ B.Inbox.meaning two.new }
 {
-    let mut generator = Generator { state: seed };
-    let mut counts = Counts::NONE;
-    let mut item = [0; BUFFER];
+    let mut counts = Counts::default();
+    let mut buffer = [0; BUFFER];
     let mut first = [0; BUFFER];
     let mut second = [0; BUFFER];
     let mut third = [0; BUFFER];
-    for _ in 0..calls {
-        let call = generator.call();
-        let len = item_len(call);
-        pattern::fill(&mut item, len, first_byte(call));
-        let a = perform(one, call, &item[0..len], &mut first);
-        let b = perform(two, call, &item[0..len], &mut second);
+    for call in (Generator { state: seed }).take(calls as usize) {
+        let item = item(call, &mut buffer);
+        let a = perform(one, call, item, &mut first);
+        let b = perform(two, call, item, &mut second);
         let c = model.perform(call, &mut third);
         counts.count(
             call,

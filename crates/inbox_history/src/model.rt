@@ -6,21 +6,36 @@ use refusal::refused::Refusal;
 
 #[derive(Clone, Copy)]
 struct Held {
+    sender: u16,
     age: u8,
     len: usize,
     first: u8,
 }
 
-/// An inbox as plain as can be: for each sender of a history, how the item was told that it put.
+impl Held {
+    // The item when a round has passed, unless it ends with that.
+    fn older(self, life: usize) -> Option<Held> {
+        let age = self.age.saturating_add(1);
+        if age as usize == life {
+            None
+        } else {
+            Some(Held { age, ..self })
+        }
+    }
+}
+
+/// An inbox as plain as can be: for each sender of a history, how the item was told that it put. It has no bytes of
+/// items, so it is no `Inbox`.
 #[derive(Drop)]
 pub struct Model {
     limits: Limits,
     byte_limit: usize,
+    // By rising sender. An array and no map: a map can run out of memory, and a history cannot fail.
     held: [Option<Held>; senders::COUNT],
 }
 
-fn refused(cause: Cause) -> Answer {
-    Answer::Refused(Refusal { cause, position: 0 })
+fn refused<T>(cause: Cause) -> Result<T, Refusal> {
+    Err(Refusal { cause, position: 0 })
 }
 
 impl Model {
@@ -33,24 +48,19 @@ impl Model {
         }
     }
 
-    // How many senders but the one of this index are held, and how many bytes they have.
-    fn others(&self, index: usize) -> (usize, usize) {
-        let mut count: usize = 0;
-        let mut bytes: usize = 0;
-        for i in 0..senders::COUNT {
-            if i != index {
-                if let Some(item) = self.held[i] {
-                    count = count.saturating_add(1);
-                    bytes = bytes.saturating_add(item.len);
-                }
-            }
-        }
-        (count, bytes)
+    // How many other senders are held, and how many bytes they have.
+    fn others(&self, sender: u16) -> (usize, usize) {
+        self.held
+            .iter()
+            .flatten()
+            .filter(|item| item.sender != sender)
+            .fold((0, 0), |(count, bytes): (usize, usize), item| {
+                (count.saturating_add(1), bytes.saturating_add(item.len))
+            })
     }
 
-    fn put(&mut self, sender: u16, len: usize, first: u8) -> Answer {
-        let index = senders::index(sender);
-        let (count, bytes) = self.others(index);
+    fn put(&mut self, sender: u16, len: usize, first: u8) -> Result<(), Refusal> {
+        let (count, bytes) = self.others(sender);
         if len > LONGEST_ITEM {
             return refused(Cause::ItemTooLong);
         }
@@ -60,71 +70,59 @@ impl Model {
         if bytes.saturating_add(len) > self.byte_limit {
             return refused(Cause::BytesFull);
         }
-        self.held[index] = Some(Held { age: 0, len, first });
-        Answer::Done
+        self.held[senders::index(sender)] = Some(Held {
+            sender,
+            age: 0,
+            len,
+            first,
+        });
+        Ok(())
     }
 
-    fn remove(&mut self, sender: u16) -> Answer {
-        let index = senders::index(sender);
-        let held = self.held[index].is_some();
-        self.held[index] = None;
-        Answer::Held(held)
+    fn remove(&mut self, sender: u16) -> bool {
+        self.held[senders::index(sender)].take().is_some()
     }
 
-    fn next(&self, k: u16) -> Answer {
-        for i in 0..senders::COUNT {
-            if self.held[i].is_some() && senders::number(i) >= k {
-                return Answer::Sender(Some(senders::number(i)));
-            }
-        }
-        Answer::Sender(None)
+    fn next(&self, k: u16) -> Option<u16> {
+        self.held
+            .iter()
+            .flatten()
+            .map(|item| item.sender)
+            .find(|sender| *sender >= k)
     }
 
-    fn read(&self, sender: u16, buffer: &mut [u8]) -> Answer {
+    fn read(&self, sender: u16, buffer: &mut [u8]) -> Result<Option<usize>, Refusal> {
         if buffer.len() < LONGEST_ITEM {
             return refused(Cause::BufferShort);
         }
-        match self.held[senders::index(sender)] {
-            Some(item) => {
-                pattern::fill(buffer, item.len, item.first);
-                Answer::Length(Some(item.len))
-            }
-            None => Answer::Length(None),
-        }
+        let Some(item) = self.held[senders::index(sender)] else {
+            return Ok(None);
+        };
+        pattern::fill(buffer, item.len, item.first);
+        Ok(Some(item.len))
     }
 
-    fn older(&self, item: Held) -> Option<Held> {
-        let age = item.age.saturating_add(1);
-        if age as usize == self.limits.life() {
-            return None;
+    fn passing(&mut self) {
+        let life = self.limits.life();
+        for held in &mut self.held {
+            *held = held.and_then(|item| item.older(life));
         }
-        Some(Held {
-            age,
-            len: item.len,
-            first: item.first,
-        })
-    }
-
-    fn passing(&mut self) -> Answer {
-        for i in 0..senders::COUNT {
-            if let Some(item) = self.held[i] {
-                self.held[i] = self.older(item);
-            }
-        }
-        Answer::Done
     }
 
     /// Makes the call, a read with the front of the buffer.
     pub fn perform(&mut self, call: Call, buffer: &mut [u8]) -> Answer {
         match call {
-            Call::Put { sender, len, first } => self.put(sender, len, first),
-            Call::Remove { sender } => self.remove(sender),
-            Call::Next { k } => self.next(k),
+            Call::Put { sender, len, first } => Answer::from(self.put(sender, len, first)),
+            Call::Remove { sender } => Answer::Held(self.remove(sender)),
+            Call::Next { k } => Answer::Sender(self.next(k)),
             Call::Read { sender, room } => {
                 let room = room.min(buffer.len());
-                self.read(sender, &mut buffer[0..room])
+                Answer::from(self.read(sender, &mut buffer[..room]))
             }
-            Call::Passing => self.passing(),
+            Call::Passing => {
+                self.passing();
+                Answer::Done
+            }
         }
     }
 }

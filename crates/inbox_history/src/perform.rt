@@ -9,18 +9,12 @@ pub fn perform<I: Inbox>(inbox: &mut I, call: Call, item: &[u8], buffer: &mut [u
     ensures { I.Inbox.meaning inbox.new ≡ after_call call (I.Inbox.meaning inbox.old) item.now }
 {
     match call {
-        Call::Put { sender, .. } => match inbox.put(sender, item) {
-            Ok(()) => Answer::Done,
-            Err(refusal) => Answer::Refused(refusal),
-        },
+        Call::Put { sender, .. } => Answer::from(inbox.put(sender, item)),
         Call::Remove { sender } => Answer::Held(inbox.remove(sender)),
         Call::Next { k } => Answer::Sender(inbox.next(k)),
         Call::Read { sender, room } => {
             let room = room.min(buffer.len());
-            match inbox.read(sender, &mut buffer[0..room]) {
-                Ok(len) => Answer::Length(len),
-                Err(refusal) => Answer::Refused(refusal),
-            }
+            Answer::from(inbox.read(sender, &mut buffer[0..room]))
         }
         Call::Passing => {
             inbox.passing();

@@ -1,8 +1,10 @@
+ghost use Rattle.std.specs.Prelude.{◌-◌, length};
+ghost use Rattle.std.specs.Iterator.{at_most};
+
 use program::program::Program;
 use record::header::HEADER_LENGTH;
 use record::record::{Record, next_record};
-use refusal::refused::Refusal;
-use std::{fmt, io};
+use std::fmt;
 
 /// Bytes in hexadecimal, `-` for none.
 #[derive(Clone, Copy)]
@@ -14,106 +16,115 @@ impl fmt::Display for Hex<'_> {
             return f.write_str("-");
         }
         for b in self.0 {
-            let b = *b;
             write!(f, "{b:02X}")?;
         }
         Ok(())
     }
 }
 
-pub fn program(rt: &impl Print, p: &Program) -> io::Result<()> {
-    let number = p.number();
-    let kind = p.kind();
-    let sensors = p.sensors();
-    let functions = p.functions();
-    let size = p.size();
-    let depth = p.depth();
-    let weight = p.weight();
-    let places = p.places();
-    println!(rt;
-        "program {number}: kind {kind}, sensors {sensors}, functions {functions}, size {size}, depth {depth}, weight {weight}, places {places}"
-    )
-}
+/// A program that was accepted.
+#[derive(Clone, Copy)]
+pub struct Accepted<'a>(pub &'a Program);
 
-pub fn refusal(rt: &impl Print, r: Refusal) -> io::Result<()> {
-    println!(rt; "{r}")
-}
-
-// How many records a message has from its header on.
-fn count_records(width: usize, message: &[u8]) -> usize {
-    let mut at = HEADER_LENGTH;
-    for n in 0..message.len() {
-        match next_record(width, message, at) {
-            Some((_, end)) => at = end,
-            None => return n,
-        }
+impl fmt::Display for Accepted<'_> {
+    fn fmt<W: fmt::Write>(&self, f: &mut fmt::Formatter<W>) -> fmt::Result {
+        let p = self.0;
+        write!(
+            f,
+            "program {}: kind {}, sensors {}, functions {}, size {}, depth {}, weight {}, places {}",
+            p.number(),
+            p.kind(),
+            p.sensors(),
+            p.functions(),
+            p.size(),
+            p.depth(),
+            p.weight(),
+            p.places()
+        )
     }
-    message.len()
 }
 
-// Prints the entries of a record: a node number and a value each.
-fn entries(rt: &impl Print, width: usize, bytes: &[u8]) -> io::Result<()> {
-    let mut rest = bytes;
-    for _ in 0..bytes.len() {
-        let [high, low, values @ ..] = rest else {
-            return Ok(());
-        };
-        if values.len() < width {
-            return Ok(());
-        }
-        let number = u16::from_be_bytes([*high, *low]);
-        let value = Hex(&values[0..width]);
-        print!(rt; ", {number}: {value}")?;
-        rest = &values[width..];
-    }
-    Ok(())
-}
-
-// The number in two bytes.
-fn pair(bytes: &[u8]) -> u16 {
+// The number in the first two bytes, and what follows it.
+fn numbered(bytes: &[u8]) -> (u16, &[u8]) {
     match bytes {
-        [high, low] => u16::from_be_bytes([*high, *low]),
-        _ => 0,
+        [high, low, rest @ ..] => (u16::from_be_bytes([*high, *low]), rest),
+        _ => (0, bytes),
     }
 }
 
-fn record(rt: &impl Print, width: usize, r: Record) -> io::Result<()> {
-    match r {
-        Record::Choice { place, choice, .. } => {
-            let place = pair(place);
-            match choice {
-                [1] => println!(rt; "place {place}: first branch"),
-                _ => println!(rt; "place {place}: second branch"),
+// A record of a message.
+#[derive(Clone, Copy)]
+struct Shown<'m>(Record<'m>);
+
+impl fmt::Display for Shown<'_> {
+    fn fmt<W: fmt::Write>(&self, f: &mut fmt::Formatter<W>) -> fmt::Result {
+        match self.0 {
+            Record::Choice { place, choice, .. } => {
+                let (place, _) = numbered(place);
+                let branch = match choice {
+                    [1] => "first",
+                    _ => "second",
+                };
+                write!(f, "place {place}: {branch} branch")
             }
-        }
-        Record::Exchange {
-            place,
-            default,
-            entries: others,
-            ..
-        } => {
-            let place = pair(place);
-            let default = Hex(default);
-            print!(rt; "place {place}: default {default}")?;
-            entries(rt, width, others)?;
-            println!(rt; "")
+            Record::Exchange {
+                place,
+                default,
+                entries,
+                ..
+            } => {
+                let (place, _) = numbered(place);
+                write!(f, "place {place}: default {}", Hex(default))?;
+                // An entry is a node number and a value.
+                for entry in entries.chunks_exact(default.len().saturating_add(2)) {
+                    let (number, value) = numbered(entry);
+                    write!(f, ", {number}: {}", Hex(value))?;
+                }
+                Ok(())
+            }
         }
     }
 }
 
-/// Prints the tree of a message that was accepted.
-pub fn tree(rt: &impl Print, width: usize, sender: u16, message: &[u8]) -> io::Result<()> {
-    let n = count_records(width, message);
-    println!(rt; "tree of {sender}: {n} records")?;
-    let mut at = HEADER_LENGTH;
-    for _ in 0..message.len() {
-        match next_record(width, message, at) {
-            Some((r, end)) => {
-                record(rt, width, r)?;
-                at = end;
-            }
-            None => return Ok(()),
-        }
+// The records of a message from a position on.
+#[derive(Clone, Copy)]
+struct Records<'m> {
+    width: usize,
+    message: &'m [u8],
+    at: usize,
+}
+
+impl<'m> Iterator for Records<'m> {
+    type Item = Record<'m>;
+
+    ghost remaining = { λ s. at_most (length s.message.now - s.at) };
+
+    fn next(&mut self) -> Option<Record<'m>> {
+        let (record, end) = next_record(self.width, self.message, self.at)?;
+        self.at = end;
+        Some(record)
     }
-    Ok(())
+}
+
+/// The tree of a message that was accepted, whose values have `width` bytes.
+#[derive(Clone, Copy)]
+pub struct Tree<'m> {
+    pub width: usize,
+    pub sender: u16,
+    pub message: &'m [u8],
+}
+
+impl fmt::Display for Tree<'_> {
+    fn fmt<W: fmt::Write>(&self, f: &mut fmt::Formatter<W>) -> fmt::Result {
+        let records = Records {
+            width: self.width,
+            message: self.message,
+            at: HEADER_LENGTH,
+        };
+        write!(f, "tree of {}: {} records", self.sender, records.count())?;
+        for record in records {
+            write!(f, "\n{}", Shown(record))?;
+        }
+        Ok(())
+    }
 }

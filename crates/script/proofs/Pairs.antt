@@ -1,49 +1,62 @@
--- Bytes of two digits each, one after the other. Assumes nothing.
-use Rattle.std.proofs.Common.{◌≡◌, ℕ, ◌+◌, ◌*◌, ◌/◌, ◌%◌, ◌<◌, ◌≤◌, ◌≢◌, List, [], ◌∷◌, ◌++◌, length, get_or, drop, Some, None, Option, sym, refl, ap, ◌∙◌, append_assoc, append-nil, arith, length-drop}
-use Rattle.std.proofs.lemmas.List.{drop_more, drop_all}
-use Rattle.script.specs.Script.{digit_value, with_digits, with_byte, with_bytes, pairs, joined}
+-- Bytes of two digits each, as the library decodes them. Assumes nothing.
+use Rattle.std.proofs.Common.{◌≡◌, ℕ, ◌+◌, ◌*◌, ◌%◌, ◌==◌, Bool, true, false, cond, List, [], ◌∷◌, length, get_or, Some, None, Option, Result, Ok, Err, sym, refl, ap, ◌∙◌, ◌≢◌, arith}
+use Rattle.std.specs.Result.{result_ok}
+use Rattle.std.proofs.lemmas.Bool.Decides.{nat_tests}
+use Rattle.std.proofs.lemmas.Bool.{eqb-true}
+use Rattle.hex.specs.Hex.{decode_of, decode_pairs, pair_value, digit_or_error, hex_digit_value, ◌>>=◌}
+use Rattle.hex.specs.declared.error.FromHexError.{FromHexError}
+use Rattle.hex.specs.declared.error.FromHexError.TheVariants.{OddLength}
+use Rattle.script.specs.Script.{digit_value, with_digits, with_byte, pairs, written_bytes}
 
-start : (m : Option (List ℕ)) → joined [] m ≡ m
-start None = refl
-start (Some ys) = refl
+digit_is : (c : ℕ) → hex_digit_value c ≡ digit_value c
+digit_is c = grind (arith, nat_tests)
 
-pub pairs_start : (xs word : List ℕ) → xs ≡ [] → joined xs (pairs (drop (2 * 0) word)) ≡ pairs word
-pairs_start xs word e = ap (λ (l : List ℕ). joined l (pairs word)) e ∙ start (pairs word)
+two_digits : (a b i j : ℕ) (x y : Option ℕ) → result_ok (digit_or_error a i x >>= (λ h. digit_or_error b j y >>= (λ l. Ok (h * 16 + l)))) ≡ with_digits x y
+two_digits a b i j None y = refl
+two_digits a b i j (Some h) None = refl
+two_digits a b i j (Some h) (Some l) = refl
 
-moved : (xs : List ℕ) (b : ℕ) (m : Option (List ℕ)) → joined (xs ++ (b ∷ [])) m ≡ joined xs (with_bytes b m)
-moved xs b None = refl
-moved xs b (Some ys) = ap Some (append_assoc xs (b ∷ []) ys)
+pair_is : (a b i : ℕ) → result_ok (pair_value a b i) ≡ with_digits (digit_value a) (digit_value b)
+pair_is a b i = two_digits a b i (i + 1) (hex_digit_value a) (hex_digit_value b) ∙ ap (λ x. with_digits x (hex_digit_value b)) (digit_is a) ∙ ap (with_digits (digit_value a)) (digit_is b)
 
-module _ (xs word : List ℕ) (i : ℕ) (inv : joined xs (pairs (drop (2 * i) word)) ≡ pairs word) where
-  abbrev pub two : Option ℕ
-  two = with_digits (digit_value (get_or word (2 * i) 0)) (digit_value (get_or word (2 * i + 1) 0))
+one_before : (p : Result ℕ FromHexError) (q : Result (List ℕ) FromHexError) → result_ok (p >>= (λ v. q >>= (λ bytes. Ok (v ∷ bytes)))) ≡ with_byte (result_ok p) (result_ok q)
+one_before (Err e) q = refl
+one_before (Ok v) (Err e) = refl
+one_before (Ok v) (Ok bytes) = refl
 
-  opened : i < length word / 2 → pairs (drop (2 * i) word) ≡ with_byte two (pairs (drop (2 * (i + 1)) word))
-  opened h =
-      let first : 2 * i < length word = omega arith in
-      let second : 2 * i + 1 < length word = omega arith in
-      let next : 2 * i + 1 + 1 ≡ 2 * (i + 1) = omega arith in
-      ap pairs (drop_more word (2 * i) 0 first ∙ ap (λ (l : List ℕ). get_or word (2 * i) 0 ∷ l) (drop_more word (2 * i + 1) 0 second))
-      ∙ ap (λ (n : ℕ). with_byte two (pairs (drop n word))) next
+pairs_are : (i : ℕ) (text : List ℕ) → result_ok (decode_pairs i text) ≡ pairs text
+unfolding decode_pairs
+pairs_are i [] = refl
+pairs_are i (a ∷ []) = refl
+pairs_are i (a ∷ (b ∷ rest)) =
+    one_before (pair_value a b i) (decode_pairs (i + 2) rest)
+    ∙ ap (λ x. with_byte x (result_ok (decode_pairs (i + 2) rest))) (pair_is a b i)
+    ∙ ap (with_byte (with_digits (digit_value a) (digit_value b))) (pairs_are (i + 2) rest)
 
-  pub pairs_stop : i < length word / 2 → None ≡ two → None ≡ pairs word
-  pairs_stop h e = ap (λ (t : Option ℕ). joined xs (with_byte t (pairs (drop (2 * (i + 1)) word)))) e ∙ ap (joined xs) (sym (opened h)) ∙ inv
+none_after : (x : Option ℕ) → with_byte x None ≡ None
+none_after None = refl
+none_after (Some b) = refl
 
-  pub pairs_more : (b : ℕ) (ys : List ℕ) → i < length word / 2 → Some b ≡ two → ys ≡ xs ++ (b ∷ []) → joined ys (pairs (drop (2 * (i + 1)) word)) ≡ pairs word
-  pairs_more b ys h e g =
-      let rest = pairs (drop (2 * (i + 1)) word) in
-      ap (λ (l : List ℕ). joined l rest) g ∙ moved xs b rest
-      ∙ ap (λ (t : Option ℕ). joined xs (with_byte t rest)) e ∙ ap (joined xs) (sym (opened h)) ∙ inv
+odd : (text : List ℕ) → length text % 2 ≡ 1 → pairs text ≡ None
+odd [] h = absurd (omega arith)
+odd (a ∷ []) h = refl
+odd (a ∷ (b ∷ rest)) h =
+    ap (with_byte (with_digits (digit_value a) (digit_value b))) (odd rest (omega arith))
+    ∙ none_after (with_digits (digit_value a) (digit_value b))
 
-  pub pairs_end : length word / 2 ≤ i → length word % 2 ≡ 0 → Some xs ≡ pairs word
-  pairs_end h e =
-      let gone : drop (2 * i) word ≡ [] = drop_all (2 * i) word (omega arith) in
-      ap Some (sym (append-nil xs)) ∙ ap (λ (l : List ℕ). joined xs (pairs l)) (sym gone) ∙ inv
+by_parity : (text : List ℕ) (b : Bool) → (length text % 2 == 1) ≡ b → result_ok (cond b (Err OddLength) (decode_pairs 0 text)) ≡ pairs text
+by_parity text true e = sym (odd text (eqb-true _ _ e))
+by_parity text false e = pairs_are 0 text
 
-  one_left : (l : List ℕ) → length l ≡ 1 → pairs l ≡ None
-  one_left [] e = absurd (omega arith)
-  one_left (a ∷ []) e = refl
-  one_left (a ∷ (b ∷ bs)) e = absurd (omega arith)
+-- what the library decodes is the bytes of the pairs
+pub read_pairs : (text bytes : List ℕ) → decode_of text ≡ Ok bytes → pairs text ≡ Some bytes
+read_pairs text bytes e = sym (by_parity text _ refl) ∙ ap result_ok e
 
-  pub pairs_odd : length word / 2 ≤ i → i ≤ length word / 2 → length word % 2 ≢ 0 → None ≡ pairs word
-  pairs_odd h g e = ap (joined xs) (sym (one_left (drop (2 * i) word) (length-drop (2 * i) word ∙ omega arith))) ∙ inv
+pub refused_pairs : (text : List ℕ) (why : FromHexError) → decode_of text ≡ Err why → pairs text ≡ None
+refused_pairs text why e = sym (by_parity text _ refl) ∙ ap result_ok e
+
+-- a word that is no dash is read as pairs
+pub in_pairs : (word : List ℕ) → (length word ≡ 1 → get_or word 0 0 ≢ 45) → written_bytes word ≡ pairs word
+in_pairs [] h = refl
+in_pairs (b ∷ []) h = let n = h refl in grind (arith, nat_tests)
+in_pairs (a ∷ (b ∷ rest)) h = refl

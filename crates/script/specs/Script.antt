@@ -1,32 +1,29 @@
 -- How a script is read: lines, words, bytes in hexadecimal. Assumes nothing.
-use Rattle.std.specs.Prelude.{ℕ, ◌+◌, ◌-◌, ◌*◌, Bool, false, cond, not, ◌&&◌, ◌||◌, List, [], ◌∷◌, ◌++◌, Some, None, Option, ◌==◌, nat_le}
-use Rattle.script.specs.declared.text.Stop.{Stop}
-use Rattle.script.specs.declared.text.Stop.TheVariants.{At, Blank, Word}
+use Rattle.std.specs.Prelude.{ℕ, ◌+◌, ◌-◌, ◌*◌, Bool, false, cond, not, ◌&&◌, ◌||◌, List, [], ◌∷◌, Some, None, Option, ◌==◌, nat_le}
 
--- where a run of bytes stops: at a byte, at a blank (a space, a tab or a carriage return), or at any other byte
+-- a blank parts words: a space, a tab or a carriage return
 abbrev pub blank : ℕ → Bool
 blank b = b == 32 || b == 9 || b == 13
 
-abbrev pub stops : Stop → ℕ → Bool
-stops (At c) b = b == c
-stops Blank b = blank b
-stops Word b = not (blank b)
+-- any other byte stands in a word
+abbrev pub in_word : ℕ → Bool
+in_word b = not (blank b)
 
 -- the bytes before the first that stops, and those from it on
-abbrev pub before : Stop → List ℕ → List ℕ
-before s [] = []
-before s (b ∷ bs) = cond (stops s b) [] (b ∷ before s bs)
+abbrev pub before : (ℕ → Bool) → List ℕ → List ℕ
+before stops [] = []
+before stops (b ∷ bs) = cond (stops b) [] (b ∷ before stops bs)
 
-abbrev pub from : Stop → List ℕ → List ℕ
-from s [] = []
-from s (b ∷ bs) = cond (stops s b) (b ∷ bs) (from s bs)
+abbrev pub from : (ℕ → Bool) → List ℕ → List ℕ
+from stops [] = []
+from stops (b ∷ bs) = cond (stops b) (b ∷ bs) (from stops bs)
 
 -- the first word of a line, empty if there is none, and what follows it
 abbrev pub first_word : List ℕ → List ℕ
-first_word line = before Blank (from Word line)
+first_word line = before blank (from in_word line)
 
 abbrev pub other_words : List ℕ → List ℕ
-other_words line = from Blank (from Word line)
+other_words line = from blank (from in_word line)
 
 -- the value of a hexadecimal digit in either case
 abbrev pub digit_value : ℕ → Option ℕ
@@ -66,11 +63,6 @@ is_none (b ∷ (c ∷ cs)) = false
 
 abbrev pub written_bytes : List ℕ → Option (List ℕ)
 written_bytes word = cond (is_none word) (Some []) (pairs word)
-
--- bytes that are known, and those of what is left
-abbrev pub joined : List ℕ → Option (List ℕ) → Option (List ℕ)
-joined xs None = None
-joined xs (Some ys) = Some (xs ++ ys)
 
 -- the number that digits write behind n, if all are digits and no front of them is above 32 bits
 abbrev pub decimal_value : ℕ → List ℕ → Option ℕ

@@ -5,18 +5,14 @@ ghost use Rattle.script.specs.Script.{decimal_value};
 pub fn decimal(word: &[u8]) -> Option<u32>
     ensures { result ≡ decimal_value 0 word.now }
 {
-    let mut n = 0u64;
+    // `str::parse` would take a sign, and refuse the empty word.
+    let mut n = 0u32;
     for b in word {
-        if *b < b'0' {
-            return None;
-        }
-        if *b > b'9' {
-            return None;
-        }
-        n = n * 10 + (*b - b'0') as u64;
-        if n > 0xFFFF_FFFF {
-            return None;
-        }
+        let digit = match b {
+            b'0'..=b'9' => *b - b'0',
+            _ => return None,
+        };
+        n = n.checked_mul(10)?.checked_add(u32::from(digit))?;
     }
-    Some(n as u32)
+    Some(n)
 }

@@ -2,6 +2,6 @@
 #![tactic(auto)]
 
 pub mod decimal;
-pub mod hex;
+pub mod hexadecimal;
 pub mod line;
 pub mod text;

@@ -1,11 +1,15 @@
-ghost use Rattle.std.specs.Prelude.{◌≡◌, length, ◌==◌};
-ghost use Rattle.script.specs.Script.{first_word};
+ghost use Rattle.std.specs.Prelude.{◌≡◌, ◌≢◌, [], MatchOption, alloc_error};
+ghost use Rattle.hex.specs.declared.error.FromHexError.TheVariants.{OutOfMemory};
+ghost use Rattle.script.specs.declared.line.LineError.TheVariants.{Memory, NotHexadecimal};
+ghost use Rattle.script.specs.Script.{first_word, other_words};
 
 use crate::decimal::decimal;
-use crate::hex;
+use crate::hexadecimal;
 use crate::text::{cut, first_word};
+use hex::FromHexError;
 use inbox::limits::LONGEST_ITEM;
 use std::alloc::{AllocError, Global};
+use thiserror::Error;
 
 /// A call of a script.
 #[derive(Drop)]
@@ -18,6 +22,13 @@ pub enum Call {
     SlotInbox(usize, usize),
     /// Make a packed inbox: sender limit, life and bytes of memory.
     PackedInbox(usize, usize, usize),
+    /// A call on the inbox that was made last.
+    OnInbox(InboxCall),
+}
+
+/// A call on an inbox.
+#[derive(Drop)]
+pub enum InboxCall {
     /// Put an item of a sender.
     Put(u16, Vec<u8>),
     /// End a sender's item.
@@ -30,174 +41,127 @@ pub enum Call {
     Pass,
 }
 
-/// What a line of a script says.
+/// Why a line gives no call.
+#[derive(Debug, Drop, Error)]
+pub enum LineError {
+    #[error("no such call")]
+    NoSuchCall,
+    #[error("an inbox is slot or packed")]
+    NoSuchInbox,
+    #[error("a number is missing")]
+    NumberMissing,
+    #[error("a number is not in decimal, or is above 4,294,967,295")]
+    NotDecimal,
+    #[error("a node number is above 65,535")]
+    NodeTooLarge,
+    #[error("the bytes are missing")]
+    BytesMissing,
+    #[error("bytes are not in hexadecimal")]
+    NotHexadecimal,
+    #[error("a word too many")]
+    WordTooMany,
+    #[error(transparent)]
+    Memory(AllocError),
+}
+
+impl From<FromHexError> for LineError {
+    ghost from_gives = { λ e r. (e ≡ OutOfMemory → r ≡ Memory alloc_error) × (e ≢ OutOfMemory → r ≡ NotHexadecimal) };
+
+    fn from(e: FromHexError) -> LineError {
+        match e {
+            FromHexError::OutOfMemory => LineError::Memory(AllocError),
+            _ => LineError::NotHexadecimal,
+        }
+    }
+}
+
+// The words of a line that are still to be read.
 #[derive(Drop)]
-pub enum Line {
-    /// Nothing, or a comment.
-    Blank,
-    /// A call.
-    Call(Call),
-    /// What is wrong with it.
-    Unreadable(&'static str),
+struct Words<'a> {
+    rest: &'a [u8],
 }
 
-// What a word was read as, or what is wrong with the line.
-type Word<T> = Result<T, &'static str>;
+impl<'a> Words<'a> {
+    // The next word, if there is one.
+    fn word(&mut self) -> Option<&'a [u8]>
+        ensures word { MatchOption result (first_word self.old.rest.now ≡ []) (λ w. w.now ≡ first_word self.old.rest.now) }
+        ensures rest { self.new.rest.now ≡ other_words self.old.rest.now }
+    {
+        let (word, rest) = first_word(self.rest);
+        self.rest = rest;
+        if word.is_empty() { None } else { Some(word) }
+    }
 
-// Whether nothing follows the words that were read.
-fn is_end(rest: &[u8]) -> bool
-    ensures { result ≡ (length (first_word rest.now) == 0) }
-{
-    let (word, _) = first_word(rest);
-    word.is_empty()
-}
+    // Nothing follows the words that were read.
+    fn end(&mut self) -> Result<(), LineError> {
+        match self.word() {
+            None => Ok(()),
+            Some(_) => Err(LineError::WordTooMany),
+        }
+    }
 
-// The next word as a number, and what follows it.
-fn number(rest: &[u8]) -> Word<(usize, &[u8])> {
-    let (word, rest) = first_word(rest);
-    if word.is_empty() {
-        return Err("a number is missing");
+    // The next word as a number, if there is one.
+    fn optional_number(&mut self) -> Result<Option<usize>, LineError> {
+        let Some(word) = self.word() else {
+            return Ok(None);
+        };
+        let n = decimal(word).ok_or(LineError::NotDecimal)?;
+        Ok(Some(n as usize))
     }
-    match decimal(word) {
-        Some(n) => Ok((n as usize, rest)),
-        None => Err("a number is not in decimal, or is above 4,294,967,295"),
-    }
-}
 
-// The next word as a node number, and what follows it.
-fn node(rest: &[u8]) -> Word<(u16, &[u8])> {
-    let (n, rest) = number(rest)?;
-    match u16::try_from(n) {
-        Ok(n) => Ok((n, rest)),
-        Err(_) => Err("a node number is above 65,535"),
+    // The next word as a number.
+    fn number(&mut self) -> Result<usize, LineError> {
+        self.optional_number()?.ok_or(LineError::NumberMissing)
     }
-}
 
-// A number as the last word, or `or` where there is none.
-fn last_number(rest: &[u8], or: usize) -> Word<usize> {
-    if is_end(rest) {
-        return Ok(or);
+    // The next word as a node number.
+    fn node(&mut self) -> Result<u16, LineError> {
+        u16::try_from(self.number()?).map_err(|_| LineError::NodeTooLarge)
     }
-    let (n, rest) = number(rest)?;
-    end(n, rest)
-}
 
-// What was read, if nothing follows it.
-fn end<T: Drop>(value: T, rest: &[u8]) -> Word<T> {
-    if is_end(rest) {
-        Ok(value)
-    } else {
-        Err("a word too many")
+    // The last word as bytes.
+    fn last_bytes(&mut self, heap: Global) -> Result<Vec<u8>, LineError> {
+        let word = self.word().ok_or(LineError::BytesMissing)?;
+        self.end()?;
+        Ok(hexadecimal::bytes(heap, word)?)
     }
-}
 
-// The last word as bytes.
-fn bytes(heap: Global, rest: &[u8]) -> Result<Word<Vec<u8>>, AllocError> {
-    let (word, rest) = first_word(rest);
-    if word.is_empty() {
-        return Ok(Err("the bytes are missing"));
-    }
-    if !is_end(rest) {
-        return Ok(Err("a word too many"));
-    }
-    match hex::bytes(heap, word)? {
-        Some(bytes) => Ok(Ok(bytes)),
-        None => Ok(Err("bytes are not in hexadecimal")),
+    // `slot SENDERS LIFE` or `packed SENDERS LIFE BYTES`
+    fn inbox(&mut self) -> Result<Call, LineError> {
+        match self.word() {
+            Some(b"slot") => Ok(Call::SlotInbox(self.number()?, self.number()?)),
+            Some(b"packed") => Ok(Call::PackedInbox(
+                self.number()?,
+                self.number()?,
+                self.number()?,
+            )),
+            _ => Err(LineError::NoSuchInbox),
+        }
     }
 }
 
-fn said(call: Word<Call>) -> Line {
-    match call {
-        Ok(call) => Line::Call(call),
-        Err(what) => Line::Unreadable(what),
-    }
-}
-
-// `program HEX`
-fn program_call(heap: Global, rest: &[u8]) -> Result<Line, AllocError> {
-    match bytes(heap, rest)? {
-        Ok(block) => Ok(Line::Call(Call::Program(block))),
-        Err(what) => Ok(Line::Unreadable(what)),
-    }
-}
-
-// `tree NODE HEX`
-fn tree_call(heap: Global, rest: &[u8]) -> Result<Line, AllocError> {
-    match node(rest) {
-        Ok((n, rest)) => match bytes(heap, rest)? {
-            Ok(message) => Ok(Line::Call(Call::Tree(n, message))),
-            Err(what) => Ok(Line::Unreadable(what)),
-        },
-        Err(what) => Ok(Line::Unreadable(what)),
-    }
-}
-
-// `put S HEX`
-fn put_call(heap: Global, rest: &[u8]) -> Result<Line, AllocError> {
-    match node(rest) {
-        Ok((n, rest)) => match bytes(heap, rest)? {
-            Ok(item) => Ok(Line::Call(Call::Put(n, item))),
-            Err(what) => Ok(Line::Unreadable(what)),
-        },
-        Err(what) => Ok(Line::Unreadable(what)),
-    }
-}
-
-// `inbox slot SENDERS LIFE`
-fn slot_inbox_call(rest: &[u8]) -> Word<Call> {
-    let (senders, rest) = number(rest)?;
-    let (life, rest) = number(rest)?;
-    end(Call::SlotInbox(senders, life), rest)
-}
-
-// `inbox packed SENDERS LIFE BYTES`
-fn packed_inbox_call(rest: &[u8]) -> Word<Call> {
-    let (senders, rest) = number(rest)?;
-    let (life, rest) = number(rest)?;
-    let (room, rest) = number(rest)?;
-    end(Call::PackedInbox(senders, life, room), rest)
-}
-
-fn inbox_call(rest: &[u8]) -> Word<Call> {
-    let (sort, rest) = first_word(rest);
-    match sort {
-        b"slot" => slot_inbox_call(rest),
-        b"packed" => packed_inbox_call(rest),
-        _ => Err("an inbox is slot or packed"),
-    }
-}
-
-fn remove_call(rest: &[u8]) -> Word<Call> {
-    let (n, rest) = node(rest)?;
-    end(Call::Remove(n), rest)
-}
-
-fn next_call(rest: &[u8]) -> Word<Call> {
-    let (n, rest) = node(rest)?;
-    end(Call::Next(n), rest)
-}
-
-// `read S [BYTES]`: the buffer's length, 2,064 if it is not said
-fn read_call(rest: &[u8]) -> Word<Call> {
-    let (n, rest) = node(rest)?;
-    let room = last_number(rest, LONGEST_ITEM)?;
-    Ok(Call::Read(n, room))
-}
-
-/// Reads a line: its first word names the call, and `#` starts a comment.
-pub fn read(heap: Global, line: &[u8]) -> Result<Line, AllocError> {
-    let (words, _) = cut(line, b'#');
-    let (name, rest) = first_word(words);
-    match name {
-        b"" => Ok(Line::Blank),
-        b"program" => program_call(heap, rest),
-        b"tree" => tree_call(heap, rest),
-        b"inbox" => Ok(said(inbox_call(rest))),
-        b"put" => put_call(heap, rest),
-        b"remove" => Ok(said(remove_call(rest))),
-        b"next" => Ok(said(next_call(rest))),
-        b"read" => Ok(said(read_call(rest))),
-        b"pass" => Ok(said(end(Call::Pass, rest))),
-        _ => Ok(Line::Unreadable("no such call")),
-    }
+/// Reads a line, which may be blank: its first word names the call, and `#` starts a comment.
+pub fn read(heap: Global, line: &[u8]) -> Result<Option<Call>, LineError> {
+    let (said, _) = cut(line, b'#');
+    let mut words = Words { rest: said };
+    let Some(name) = words.word() else {
+        return Ok(None);
+    };
+    let call = match name {
+        b"program" => Call::Program(words.last_bytes(heap)?),
+        b"tree" => Call::Tree(words.node()?, words.last_bytes(heap)?),
+        b"inbox" => words.inbox()?,
+        b"put" => Call::OnInbox(InboxCall::Put(words.node()?, words.last_bytes(heap)?)),
+        b"remove" => Call::OnInbox(InboxCall::Remove(words.node()?)),
+        b"next" => Call::OnInbox(InboxCall::Next(words.node()?)),
+        b"read" => Call::OnInbox(InboxCall::Read(
+            words.node()?,
+            // The buffer is as long as the longest item, if its length is not said.
+            words.optional_number()?.unwrap_or(LONGEST_ITEM),
+        )),
+        b"pass" => Call::OnInbox(InboxCall::Pass),
+        _ => return Err(LineError::NoSuchCall),
+    };
+    words.end()?;
+    Ok(Some(call))
 }

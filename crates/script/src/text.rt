@@ -1,52 +1,36 @@
-ghost use Rattle.std.specs.Prelude.{◌≡◌, ◌<◌, ◌≤◌, length, take, drop};
-ghost use Rattle.script.specs.Script.{stops, before, from, first_word, other_words};
+ghost use Rattle.std.specs.Prelude.{◌≡◌, ℕ, ◌==◌, Bool, not, ◌<◌, ◌≤◌, length, drop};
+ghost use Rattle.std.specs.Fn.{ComputesKey};
+ghost use Rattle.script.specs.Script.{blank, before, from, first_word, other_words};
 
-/// Where a run of bytes stops.
-#[derive(Clone, Copy)]
-pub enum Stop {
-    /// At this byte.
-    At(u8),
-    /// At a byte that parts words.
-    Blank,
-    /// At any other byte.
-    Word,
+/// Whether a byte parts words.
+fn is_blank(b: u8) -> bool
+    ensures { result ≡ blank b }
+{
+    matches!(b, b' ' | b'\t' | b'\r')
 }
 
-fn stops_at(stop: Stop, b: u8) -> bool
-    ensures { result ≡ stops stop b }
+/// What stands before the first byte that stops, and what stands from it on.
+fn split_before<F: Fn(&u8) -> bool>(text: &[u8], stops: F) -> (&[u8], &[u8])
+    requires { F.IsAlwaysCallable stops }
+    ensures within { length result.1.now ≤ length text.now }
+    ensures front { (p : ℕ → Bool) → ComputesKey F.FnMut p stops → result.0.now ≡ before p text.now }
+    ensures back { (p : ℕ → Bool) → ComputesKey F.FnMut p stops → result.1.now ≡ from p text.now }
 {
-    match stop {
-        Stop::At(c) => b == c,
-        Stop::Blank => b == b' ' || b == b'\t' || b == b'\r',
-        Stop::Word => !(b == b' ' || b == b'\t' || b == b'\r'),
-    }
-}
-
-/// How many bytes stand before the first that stops.
-fn run_length(text: &[u8], stop: Stop) -> usize
-    ensures within { result ≤ length text.now }
-    ensures front { take result text.now ≡ before stop text.now }
-    ensures back { drop result text.now ≡ from stop text.now }
-{
-    for i in 0..text.len() {
-        if stops_at(stop, text[i]) {
-            return i;
-        }
-    }
-    text.len()
+    let n = text.iter().position(stops).unwrap_or(text.len());
+    text.split_at(n)
 }
 
 /// What stands before the first byte `c`, and what stands behind it.
 pub fn cut(text: &[u8], c: u8) -> (&[u8], &[u8])
-    ensures front { result.0.now ≡ before (Stop.At c) text.now }
-    ensures back { result.1.now ≡ drop 1 (from (Stop.At c) text.now) }
+    ensures front { result.0.now ≡ before (λ b. b == c) text.now }
+    ensures back { result.1.now ≡ drop 1 (from (λ b. b == c) text.now) }
     ensures shorter { 0 < length text.now → length result.1.now < length text.now }
 {
-    let n = run_length(text, Stop::At(c));
-    if n == text.len() {
-        return (text, &text[n..]);
+    let (front, back) = split_before(text, |b| *b == c);
+    match back {
+        [_, behind @ ..] => (front, behind),
+        [] => (front, back),
     }
-    (&text[0..n], &text[n + 1..])
 }
 
 /// The first word of a line, empty if there is none, and what follows it.
@@ -54,8 +38,6 @@ pub fn first_word(line: &[u8]) -> (&[u8], &[u8])
     ensures word { result.0.now ≡ first_word line.now }
     ensures rest { result.1.now ≡ other_words line.now }
 {
-    let start = run_length(line, Stop::Word);
-    let words = &line[start..];
-    let end = run_length(words, Stop::Blank);
-    (&words[0..end], &words[end..])
+    let (_, words) = split_before(line, |b| !is_blank(*b));
+    split_before(words, |b| is_blank(*b))
 }

@@ -1,6 +1,6 @@
-use Rattle.std.proofs.Common.{◌≡◌, ◌≤◌, drop}
+use Rattle.std.proofs.Common.{◌≡◌, drop}
 use Rattle.script.specs.Script.{decimal_value}
 use Rattle.script.proofs.decimal.decimal.Given as goal
 
 abbrev pub invariant-loop-b : goal.invariant-loop-b
-invariant-loop-b l = (l.n ≤ 4294967295) × (decimal_value l.n (drop l.b-index l.word) ≡ decimal_value 0 l.word)
+invariant-loop-b l = decimal_value l.n (drop l.b-index l.word) ≡ decimal_value 0 l.word

@@ -1,25 +1,19 @@
-use Rattle.std.proofs.Common.{◌∙◌, arith}
-use Rattle.script.specs.declared.text.Stop.TheVariants.{At}
-use Rattle.script.proofs.Runs.{head_is, next_is, all_front, all_back, shorter}
+use Rattle.std.proofs.Common.{rules, ◌==◌, arith}
+use Rattle.std.proofs.lemmas.Fn.{always_returns_same}
+use Rattle.script.proofs.Runs.{none_behind, behind, behind_is_shorter}
 use Rattle.script.proofs.text.cut.Goals as goal
 
-pub returns-then-n-text : goal.returns-then-n-text
-returns-then-n-text c =
-    let e = c.run_length-n.ensures in
-    let stop = At c.args.c in
-    let text = c.args.text.now in
-    record {
-      front = all_front stop text _ (omega arith) e.front;
-      back = all_back stop text _ (omega arith) e.back;
-      shorter = λ h. shorter text _ (omega arith) h;
-    }
+pub returns-in-empty-clause-front : goal.returns-in-empty-clause-front
+returns-in-empty-clause-front c = c.split_before.ensures.front (λ b. b == c.args.c) (always_returns_same _ _ _ (λ a r f k. search rules))
 
-pub returns : goal.returns
-returns c =
-    let e = c.run_length-n.ensures in
-    let text = c.args.text.now in
-    record {
-      front = head_is text _ ∙ e.front;
-      back = next_is text _ _ e.back;
-      shorter = λ h. shorter text _ (omega arith) h;
-    }
+pub returns-in-empty-clause-back : goal.returns-in-empty-clause-back
+returns-in-empty-clause-back c = none_behind _ _ (c.split_before.ensures.back (λ b. b == c.args.c) (always_returns_same _ _ _ (λ a r f k. search rules))) (omega arith)
+
+pub returns-in-len1-up-clause-front : goal.returns-in-len1-up-clause-front
+returns-in-len1-up-clause-front c = c.split_before.ensures.front (λ b. b == c.args.c) (always_returns_same _ _ _ (λ a r f k. search rules))
+
+pub returns-in-len1-up-clause-back : goal.returns-in-len1-up-clause-back
+returns-in-len1-up-clause-back c = behind _ _ (c.split_before.ensures.back (λ b. b == c.args.c) (always_returns_same _ _ _ (λ a r f k. search rules)))
+
+pub returns-in-len1-up-clause-shorter : goal.returns-in-len1-up-clause-shorter
+returns-in-len1-up-clause-shorter c = λ _. behind_is_shorter c.split_before.result.1.now c.args.text.now (omega arith) (omega arith)
