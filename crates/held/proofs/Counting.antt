@@ -1,10 +1,12 @@
 -- Which items count, and the slots with one item more.
-use Rattle.std.proofs.Common.{◌≡◌, ℕ, ◌+◌, ◌-◌, ◌*◌, ◌<◌, ◌≤◌, Bool, true, false, cond, eqb, List, [], ◌∷◌, ◌++◌, length, get_or, take, drop, set, is_some, Some, None, Ok, Err, Option, sym, refl, ap, ◌∙◌, subst, ⊎_elim, arith}
+use Rattle.std.proofs.Common.{◌≡◌, ℕ, ◌+◌, ◌*◌, ◌<◌, ◌≤◌, Bool, true, false, cond, eqb, List, [], ◌∷◌, ◌++◌, get_or, take, drop, set, is_some, Some, None, Ok, Err, Option, sym, refl, ap, ◌∙◌, subst, ⊎_elim, arith}
 use Rattle.std.proofs.lemmas.Bool.{cases_lt, true≢false, false≢true}
-use Rattle.std.proofs.lemmas.List.{append-nil, length-take, length_push, get_or_push, get_or_append_left, get_or-set_same, get_or-set_other, take_rest}
+use Rattle.std.proofs.lemmas.List.{append-nil, length_push, get_or_push, get_or_append_left, get_or-set_same, get_or-set_other}
+use Rattle.std.specs.Result.{result_eq}
 use Rattle.refusal.specs.declared.cause.Cause.TheVariants.{OtherKind}
+use Rattle.refusal.specs.declared.refused.Refusal.{Refusal}
 use Rattle.refusal.specs.Outcomes.{Outcome, after, must, mapped}
-use Rattle.kind.specs.Kind.{Meaning, Lawful}
+use Rattle.kind.specs.Kind.{Meaning}
 use Rattle.program.specs.declared.program.Program.{Program}
 use Rattle.program.specs.Programs.{shown, run_of}
 use Rattle.program.specs.Verdict.{suits}
@@ -32,42 +34,24 @@ some_is : {A : Type 0} (o : Option A) → is_some o ≡ true → (a : A) × (o �
 some_is None e = absurd (false≢true e)
 some_is (Some a) e = (a, refl)
 
--- whether a message read with this answer is the sender's
-abbrev pub is_from : Outcome ℕ → ℕ → Bool
-is_from (Ok from) s = eqb from s
-is_from (Err r) s = false
-
 module _ {V : Type 0} (k : Meaning V) where
-  from_sender : (s : ℕ) (v : Option V) (t : Outcome (Tree V)) → is_some v ≡ true → is_some (sender_with s v t) ≡ is_from (mapped sender_of t) s
-  from_sender s None t e = absurd (false≢true e)
-  from_sender s (Some v) (Err r) e = refl
-  from_sender s (Some v) (Ok t) e = some_if (eqb t.sender s) _
+  module _ (same : Refusal → Refusal → Bool) where
+    from_sender : (s : ℕ) (v : Option V) (t : Outcome (Tree V)) → is_some v ≡ true → result_eq eqb same (mapped sender_of t) (Ok s) ≡ is_some (sender_with s v t)
+    from_sender s None t e = absurd (cc)
+    from_sender s (Some v) (Err r) e = refl
+    from_sender s (Some v) (Ok t) e = sym (some_if (eqb t.sender s) _)
 
-  -- fewer bytes than the width are no link
-  no_link : Lawful k → (x : List ℕ) → length x < k.width → k.read (take k.width x) ≡ None
-  no_link law x h = go (k.read (take k.width x)) refl
-    where
-      go : (o : Option V) → k.read (take k.width x) ≡ o → o ≡ None
-      go None e = refl
-      go (Some v) e =
-          let a = length-take k.width x in
-          let b = ap length (law.only (take k.width x) v e) in
-          let d = law.long v in
-          absurd (let y : ⊥ = omega arith in y)
-
-  module _ (p : Program) (me s : ℕ) (x : List ℕ) where
-    pub not_held_short : Lawful k → (w : ℕ) → w ≡ k.width → length x < w → false ≡ is_held k p me s x
-    not_held_short law w e h =
-        sym (ap (λ (o : Option V). is_some (sender_with s o (message k (due (run_of p) 0) (shown p).header.number me (drop k.width x)))) (no_link law x (omega arith)))
-
-    pub held_by_answers : (w : ℕ) → w ≡ k.width → suits k (shown p) ≡ true → (v : Option V) (r : Outcome ℕ) → v ≡ k.read (take w x)
-        → r ≡ mapped sender_of (tree_in k p me (take (length x - w) (drop w x))) → is_some v ≡ true → is_from r s ≡ is_held k p me s x
-    held_by_answers w e fit v r f g h =
+    -- an item with a link is its sender's where its message is read with this answer
+    pub held_by_answers : (p : Program) (me s : ℕ) (x link rest : List ℕ) (w : ℕ) → w ≡ k.width → link ≡ take w x → rest ≡ drop w x → suits k (shown p) ≡ true
+        → (v : Option V) (r : Outcome ℕ) → v ≡ k.read link → r ≡ mapped sender_of (tree_in k p me rest) → is_some v ≡ true
+        → result_eq eqb same r (Ok s) ≡ is_held k p me s x
+    held_by_answers p me s x link rest w e el er fit v r f g h =
         let body : List ℕ → Outcome (Tree V) = λ m. message k (due (run_of p) 0) (shown p).header.number me m in
+        let read : v ≡ k.read (take k.width x) = f ∙ ap k.read (el ∙ ap (λ n. take n x) e) in
         let told : r ≡ mapped sender_of (body (drop k.width x)) =
-        g ∙ ap (λ m. mapped sender_of (tree_in k p me m)) (take_rest x w ∙ ap (λ n. drop n x) e)
+        g ∙ ap (λ m. mapped sender_of (tree_in k p me m)) (er ∙ ap (λ n. drop n x) e)
         ∙ ap (λ b. mapped sender_of (after (must b OtherKind 7) (λ _. body (drop k.width x)))) fit in
-        ap (λ q. is_from q s) told ∙ sym (from_sender s (k.read (take k.width x)) (body (drop k.width x)) (ap is_some (sym (f ∙ ap (λ n. k.read (take n x)) e)) ∙ h))
+        ap (λ q. result_eq eqb same q (Ok s)) told ∙ from_sender s v (body (drop k.width x)) h ∙ ap (λ o. is_some (sender_with s o (body (drop k.width x)))) read
 
   module _ (p : Program) (me : ℕ) (bytes : List ℕ) (s : Slots) (sender n : ℕ) where
     -- the sender in slot j under a number, of so many bytes

@@ -1,34 +1,17 @@
 -- Parts of lent bytes, and reading an item into one.
-use Rattle.std.proofs.Common.{◌≡◌, ℕ, ◌+◌, ◌-◌, ◌<◌, ◌≤◌, min, true, false, cond, eqb, ltb, List, [], ◌∷◌, ◌++◌, length, take, drop, Some, None, Ok, Err, Option, unwrap_or, sym, refl, ap, ◌∙◌, subst, ⊎_elim, arith, le-ltb}
+use Rattle.std.proofs.Common.{◌≡◌, ℕ, ◌+◌, ◌-◌, ◌≤◌, true, false, cond, eqb, ltb, List, [], ◌∷◌, ◌++◌, length, take, drop, Some, None, Ok, Option, unwrap_or, sym, refl, ap, ◌∙◌, subst, ⊎_elim, arith, le-ltb}
 use borrow.Rule.Slice.PartMut.{put_mid}
+use Rattle.std.specs.Option.{option_flatten}
+use Rattle.std.specs.Result.{result_ok}
 use Rattle.std.specs.List.{AllByRecursion}
-use Rattle.std.proofs.lemmas.Bool.{cases_lt, cases_Bool}
-use Rattle.std.proofs.lemmas.List.{append_assoc, length-take-le, length-drop, take_all, drop_all, take-take, take_at, drop_at, drop-take, drop-append-le, take-append-drop}
+use Rattle.std.proofs.lemmas.Bool.{cases_Bool}
+use Rattle.std.proofs.lemmas.List.{append_assoc, length-take-le, length-drop, take-take, take_at, drop_at, drop-take, drop-append-le, take-append-drop}
 use Rattle.refusal.specs.declared.cause.Cause.TheVariants.{BufferShort}
 use Rattle.refusal.specs.Outcomes.{Outcome, refuse}
 use Rattle.record.specs.Fields.{part}
 use Rattle.inbox.specs.Contents.{Item, Contents, Lawful, longest_item}
 use Rattle.inbox.specs.Calls.{bytes_of, found_length, read_answer, at_front, buffer_after_read}
 use Rattle.held.specs.Loading.{ReadsItem}
-
--- a bound beyond the end is the end
-pub take_within : (m n : ℕ) (xs : List ℕ) → m ≡ min n (length xs) → take m xs ≡ take n xs
-take_within m n xs e = ⊎_elim
-    (λ (h : n < length xs). ap (λ i. take i xs) (let f : m ≡ n = omega arith in f))
-    (λ (h : length xs ≤ n). take_all m xs (omega arith) ∙ sym (take_all n xs h))
-    (cases_lt n (length xs))
-
-pub drop_within : (m n : ℕ) (xs : List ℕ) → m ≡ min n (length xs) → drop m xs ≡ drop n xs
-drop_within m n xs e = ⊎_elim
-    (λ (h : n < length xs). ap (λ i. drop i xs) (let f : m ≡ n = omega arith in f))
-    (λ (h : length xs ≤ n). drop_all m xs (omega arith) ∙ sym (drop_all n xs h))
-    (cases_lt n (length xs))
-
-pub part_within : (start size at n : ℕ) (xs : List ℕ) → start ≡ min at (length xs) → size ≡ min n (length xs - start) → take ((start + size) - start) (drop start xs) ≡ part xs at n
-part_within start size at n xs e f =
-    ap (λ i. take i (drop start xs)) (let h : (start + size) - start ≡ size = omega arith in h)
-    ∙ take_within size n (drop start xs) (f ∙ ap (min n) (sym (length-drop start xs)))
-    ∙ ap (take n) (drop_within start at xs e)
 
 -- a part below a bound, of bytes that are the same below it
 pub part_below : (bound at n : ℕ) (xs ys : List ℕ) → at + n ≤ bound → take bound xs ≡ take bound ys → part xs at n ≡ part ys at n
@@ -41,8 +24,7 @@ part_below bound at n xs ys h e =
 
 -- how many bytes were read
 abbrev pub answer_size : Outcome (Option ℕ) → ℕ
-answer_size (Ok found) = unwrap_or found 0
-answer_size (Err r) = 0
+answer_size r = unwrap_or (option_flatten (result_ok r)) 0
 
 short_item : (is : List Item) (s : ℕ) (x : List ℕ) → AllByRecursion (λ i. length i.bytes ≤ longest_item) is → bytes_of is s ≡ Some x → length x ≤ longest_item
 short_item [] s x h e = absurd (let z : ◌≡◌ {A = ℕ} 0 1 = cc in let y : ⊥ = omega arith in y)

@@ -1,4 +1,4 @@
-use Rattle.std.proofs.Common.{sym, ap, rules}
+use Rattle.std.proofs.Common.{sym, ◌∙◌, ap, rules}
 use Rattle.cursor.specs.Cursors.{said_choice}
 use Rattle.cursor.proofs.Saying.{nothing_said, choice_said}
 use Rattle.cursor.proofs.cursor.choice_at.Goals as goal
@@ -11,10 +11,10 @@ returns-then-not-has_place g c = λ rs low number readable stands le.
 pub returns-in-Ok : goal.returns-in-Ok
 returns-in-Ok g c = λ rs low number readable stands le.
     let here = c.seek-at.ensures.stands rs low readable stands le in
-    let said = choice_said g.K.Kind.meaning g.met.K.Kind.lawful readable here c.seek-at.ensures.stops c.if-not-has_place.ensures number _ c.value_width.ensures.is _ c.in-Ok.ensures.is in
+    let said = choice_said g.K.Kind.meaning g.met.K.Kind.lawful readable here c.seek-at.ensures.stops c.if-not-has_place.ensures number _ (c.WIDTH.ensures ∙ g.met.K.Kind.width_is) _ c.in-Ok.ensures.is in
     search rules
 
 pub returns-in-Err : goal.returns-in-Err
 returns-in-Err g c = λ rs low number readable stands le.
     let here = c.seek-at.ensures.stands rs low readable stands le in
-    choice_said g.K.Kind.meaning g.met.K.Kind.lawful readable here c.seek-at.ensures.stops c.if-not-has_place.ensures number _ c.value_width.ensures.is _ c.in-Err.ensures.is
+    choice_said g.K.Kind.meaning g.met.K.Kind.lawful readable here c.seek-at.ensures.stops c.if-not-has_place.ensures number _ (c.WIDTH.ensures ∙ g.met.K.Kind.width_is) _ c.in-Err.ensures.is

@@ -1,4 +1,4 @@
-use Rattle.std.proofs.Common.{sym, ap, arith, rules}
+use Rattle.std.proofs.Common.{sym, ◌∙◌, ap, arith, rules}
 use Rattle.cursor.specs.Cursors.{said_value}
 use Rattle.cursor.proofs.Saying.{nothing_said, value_said}
 use Rattle.cursor.proofs.cursor.value_at.Goals as goal
@@ -14,10 +14,10 @@ returns-then-not-has_place g c = λ rs low readable stands le.
 pub returns-in-Ok : goal.returns-in-Ok
 returns-in-Ok g c = λ rs low readable stands le.
     let here = c.seek-at.ensures.stands rs low readable stands le in
-    let said = value_said g.K.Kind.meaning g.met.K.Kind.lawful readable here c.seek-at.ensures.stops c.if-not-has_place.ensures c.args.number _ c.value_width.ensures.is _ c.in-Ok.ensures.is in
+    let said = value_said g.K.Kind.meaning g.met.K.Kind.lawful readable here c.seek-at.ensures.stops c.if-not-has_place.ensures c.args.number _ (c.WIDTH.ensures ∙ g.met.K.Kind.width_is) _ c.in-Ok.ensures.is in
     search rules
 
 pub returns-in-Err : goal.returns-in-Err
 returns-in-Err g c = λ rs low readable stands le.
     let here = c.seek-at.ensures.stands rs low readable stands le in
-    value_said g.K.Kind.meaning g.met.K.Kind.lawful readable here c.seek-at.ensures.stops c.if-not-has_place.ensures c.args.number _ c.value_width.ensures.is _ c.in-Err.ensures.is
+    value_said g.K.Kind.meaning g.met.K.Kind.lawful readable here c.seek-at.ensures.stops c.if-not-has_place.ensures c.args.number _ (c.WIDTH.ensures ∙ g.met.K.Kind.width_is) _ c.in-Err.ensures.is

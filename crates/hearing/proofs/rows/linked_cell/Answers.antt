@@ -17,8 +17,8 @@ returns g c =
           let many = gives.held.many in
           let lt : j < length h.held = omega arith in
           let read : c.read.result ≡ Some (get_or h.held j d).link =
-          c.read.ensures ∙ ap k.read (c.link_bytes-link.ensures ∙ ap (λ (w : ℕ). take w (slot_bytes x.bytes.now x.slots.now j)) c.value_width.ensures.is) ∙ loaded_link gives.held j d (omega arith) in
+          c.read.ensures ∙ ap k.read (c.link_bytes-link.ensures ∙ ap (λ (w : ℕ). take w (slot_bytes x.bytes.now x.slots.now j)) (c.WIDTH.ensures ∙ g.met.K.Kind.width_is)) ∙ loaded_link gives.held j d (omega arith) in
           c.unwrap_or.ensures
-          ∙ ap (λ (o : Option g.row.K-Value.Denot). unwrap_or o c.unknown_value-2.result) read
+          ∙ ap (λ (o : Option g.row.K-Value.Denot). unwrap_or o c.UNKNOWN-2.result) read
           ∙ sym (ap (links k h) (spot_held h i j d (omega arith) lt) ∙ links_held h k gives.orderly j d lt);
     }

@@ -38,7 +38,7 @@ returns g c =
           let many = gives.held.many in
           let lt : j < length h.held = omega arith in
           let tree : c.tree-tree.result.now ≡ tree_of k x j =
-          c.tree-tree.ensures ∙ ap (λ (w : ℕ). slot_tree w x.bytes.now x.slots.now j) c.value_width.ensures.is in
+          c.tree-tree.ensures ∙ ap (λ (w : ℕ). slot_tree w x.bytes.now x.slots.now j) (c.WIDTH.ensures ∙ g.met.K.Kind.width_is) in
           let value : c.value_at-said.result ≡ said_value (says h.number p rs) =
           c.value_at-said.ensures rs low
           (subst (λ (m : List ℕ). Readable k m rs) (sym tree) (gives.trees j d lt))

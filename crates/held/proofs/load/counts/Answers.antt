@@ -1,22 +1,15 @@
-use Rattle.std.proofs.Common.{not, sym, ap, ◌∙◌}
-use Rattle.held.proofs.Counting.{is_from, not_held_short, held_by_answers}
+use Rattle.std.proofs.Common.{sym, ap, ◌∙◌}
+use Rattle.refusal.specs.Outcomes.{mapped}
+use Rattle.tree.specs.Trees.{tree_in, sender_of}
+use Rattle.held.proofs.Counting.{held_by_answers}
 use Rattle.held.proofs.load.counts.Goals as goal
 
-pub returns-then-item-width : goal.returns-then-item-width
-returns-then-item-width g c =
-    not_held_short g.K.Kind.meaning c.args.program.now c.args.node c.args.sender c.args.item.now g.met.K.Kind.lawful
-    c.value_width-width.result c.value_width-width.ensures.is c.if-item-width.true
-
-pub returns-in-Ok : goal.returns-in-Ok
-returns-in-Ok g c =
-    ap (λ r. is_from r c.args.sender) (sym c.in-Ok.is)
-    ∙ held_by_answers g.K.Kind.meaning c.args.program.now c.args.node c.args.sender c.args.item.now
-    c.value_width-width.result c.value_width-width.ensures.is c.requires.suits c.read.result c.read-2.result c.read.ensures c.read-2.ensures.is
-    (c.is_none.ensures ∙ ap not c.if-is_none.false)
-
-pub returns-in-Err : goal.returns-in-Err
-returns-in-Err g c =
-    ap (λ r. is_from r c.args.sender) (sym c.in-Err.is)
-    ∙ held_by_answers g.K.Kind.meaning c.args.program.now c.args.node c.args.sender c.args.item.now
-    c.value_width-width.result c.value_width-width.ensures.is c.requires.suits c.read.result c.read-2.result c.read.ensures c.read-2.ensures.is
-    (c.is_none.ensures ∙ ap not c.if-is_none.false)
+pub returns-then-is_some : goal.returns-then-is_some
+returns-then-is_some g c =
+    let split = c.in-Some.ensures.cases in
+    c.eq.ensures
+    ∙ held_by_answers g.K.Kind.meaning _ c.args.program.now.program.now c.args.node c.args.sender c.args.item.now c.in-Some.link.now c.in-Some.tree.now
+    c.WIDTH.result (c.WIDTH.ensures ∙ g.met.K.Kind.width_is) split.1 split.2 c.args.program.now.suited
+    c.read.result c.read-then-is_some.result c.read.ensures
+    (c.read-then-is_some.ensures.is ∙ ap (λ p. mapped sender_of (tree_in g.K.Kind.meaning p c.args.node c.in-Some.tree.now)) c.program.ensures)
+    (sym c.is_some.ensures ∙ c.if-is_some.true)
