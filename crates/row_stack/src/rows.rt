@@ -73,6 +73,14 @@ impl<'a, V: Copy> RowStack<'a, V> {
         self.cells[i]
     }
 
+    /// The cells of the row at `at`.
+    pub fn row(&self, at: usize) -> &[V]
+        requires { at + self.now.width ≤ length self.now.cells.now }
+        ensures { result.now ≡ row self.now at }
+    {
+        &self.cells[at..at + self.width]
+    }
+
     /// Lays a row that has one value in all cells.
     pub fn fill(&mut self, at: usize, v: V)
         requires { at + self.old.width ≤ length self.old.cells.now }
