@@ -1,5 +1,8 @@
 -- Cursors that are moved on and flags that are made, one slot after the other.
-use Rattle.std.proofs.Common.{◌≡◌, ℕ, ◌+◌, ◌<◌, ◌≤◌, Bool, false, ◌&&◌, ◌≢◌, List, length, get_or, set, Some, None, Option, sym, refl, ap, ◌∙◌, subst, arith, get_or-set_other, get_or-set_same, below_more}
+use Rattle.std.proofs.Common.{◌≡◌, ℕ, ◌+◌, ◌<◌, ◌≤◌, Bool, true, false, ◌&&◌, ◌≢◌, List, ◌++◌, length, get_or, set, Some, Option, sym, refl, ap, ◌∙◌, subst, arith, get_or-set_other, get_or-set_same, below_more}
+use mathlib.Core.Bool.{beq}
+use Rattle.std.proofs.lemmas.List.{get_or_append_left}
+use Rattle.std.specs.Option.{option_eq}
 use Rattle.kind.specs.Kind.{Meaning}
 use Rattle.record.specs.Trees.{Rec, Said, silent, chose, reads, says}
 use Rattle.rules.specs.Rules.{Given, same, is_choice, narrowed}
@@ -22,42 +25,70 @@ module _ {V : Type 0} (k : Meaning V) (x : Inputs) (place : ℕ) where
   abbrev pub Moves : ℕ → ℕ → ℕ → Type 0
   Moves j from to = (rs : List (Rec V)) (low : ℕ) → Readable k (tree_of k x j) rs → Stands k (tree_of k x j) rs low from → low ≤ place → Stands k (tree_of k x j) rs place to
 
+  pub moves_on : (j at from to : ℕ) → at ≡ from → (m : List ℕ) → m ≡ tree_of k x j
+      → ((rs : List (Rec V)) (low : ℕ) → Readable k m rs → Stands k m rs low at → low ≤ place → Stands k m rs place to)
+      → Moves j from to
+  moves_on j at from to e m is moves = λ rs low readable stands le.
+      subst (λ (t : List ℕ). Stands k t rs place to) is
+      (moves rs low (subst (λ (t : List ℕ). Readable k t rs) (sym is) readable)
+      (subst (λ (n : ℕ). Stands k m rs low n) (sym e) (subst (λ (t : List ℕ). Stands k t rs low from) (sym is) stands)) le)
+
   -- the flag of slot j stays where its sender chose the branch
   abbrev pub Stays : Bool → ℕ → ℕ → Bool → Bool → Type 0
   Stays first j from flag still = (rs : List (Rec V)) (low number : ℕ) → Readable k (tree_of k x j) rs → Stands k (tree_of k x j) rs low from → low ≤ place → still ≡ (flag && is_choice first (says number place rs))
 
-  pub all_moved : (g : Given V) (low : ℕ) (before after : Cursors) → Gives k x g → Standing k x g low before → low ≤ place
-      → ((j : ℕ) → j < x.slots.now.count → Moves j (get_or before.senders j 0) (get_or after.senders j 0))
+  -- the senders of the slots have moved on, or kept their flags: what is written is the front of the list
+  pub all_moved : (g : Given V) (low : ℕ) (before after : Cursors) (items rest : List ℕ) → Gives k x g → Standing k x g low before → low ≤ place
+      → after.senders ≡ items ++ rest → x.slots.now.count ≤ length items
+      → ((j : ℕ) → j < x.slots.now.count → Moves j (get_or before.senders j 0) (get_or items j 0))
       → Stands k x.own.now g.last place after.own
       → Standing k x g place after
-  all_moved g low before after gives stands le moves own =
+  all_moved g low before after items rest gives stands le e long moves own =
       let many = gives.held.many in
       record {
-        senders = λ j d h. moves j (omega (arith, many, h)) _ low (gives.trees j d h) (stands.senders j d h) le;
+        senders = λ j d h.
+            subst (λ (n : ℕ). Stands k (tree_of k x j) (get_or g.held j d).tree place n)
+            (sym (ap (λ (xs : List ℕ). get_or xs j 0) e ∙ get_or_append_left items rest 0 j (omega (arith, many, h, long))))
+            (moves j (omega (arith, many, h)) _ low (gives.trees j d h) (stands.senders j d h) le);
         own = own;
       }
 
-  pub all_stay : (first : Bool) (g : Given V) (al : ℕ → Bool) (low : ℕ) (c : Cursors) (flags still : List Bool) → Gives k x g → Flags g al flags → Standing k x g low c → low ≤ place
-      → ((j : ℕ) → j < x.slots.now.count → Stays first j (get_or c.senders j 0) (get_or flags j false) (get_or still j false))
-      → Flags g (narrowed g al place first) still
-  all_stay first g al low c flags still gives aligned stands le stays =
+  pub all_stay : (first : Bool) (g : Given V) (al : ℕ → Bool) (low : ℕ) (c : Cursors) (flags items rest : List Bool) → Gives k x g → Flags g al flags → Standing k x g low c → low ≤ place
+      → x.slots.now.count ≤ length items
+      → ((j : ℕ) → j < x.slots.now.count → Stays first j (get_or c.senders j 0) (get_or flags j false) (get_or items j false))
+      → Flags g (narrowed g al place first) (items ++ rest)
+  all_stay first g al low c flags items rest gives aligned stands le long stays =
       let many = gives.held.many in
       record {
         is = λ j d h.
-            stays j (omega (arith, many, h)) _ low g.number (gives.trees j d h) (stands.senders j d h) le
+            get_or_append_left items rest false j (omega (arith, many, h, long))
+            ∙ stays j (omega (arith, many, h)) _ low g.number (gives.trees j d h) (stands.senders j d h) le
             ∙ (λ i. aligned.is j d h i && is_choice first (sym (hears_nth g.number place g.held gives.orderly.rising j d h) i));
       }
 
 -- a choice that was found in a tree, by what the tree says
-pub choice_is : {V : Type 0} (k : Meaning V) (m tree : List ℕ) (place from : ℕ) (first : Bool) (o : Option Bool) → m ≡ tree
-    → ((rs : List (Rec V)) (low number : ℕ) → Readable k m rs → Stands k m rs low from → low ≤ place → o ≡ said_choice (says number place rs))
-    → (rs : List (Rec V)) (low number : ℕ) → Readable k tree rs → Stands k tree rs low from → low ≤ place
-    → (elim o [ Some b ↦ same first b | None ↦ false ]) ≡ is_choice first (says number place rs)
-choice_is {V} k m tree place from first o is found rs low number readable stands le =
-    ap (λ (p : Option Bool). elim p [ Some b ↦ same first b | None ↦ false ]) (found rs low number (subst (λ (t : List ℕ). Readable k t rs) (sym is) readable) (subst (λ (t : List ℕ). Stands k t rs low from) (sym is) stands) le)
-    ∙ by_said (says number place rs)
-  where
-    by_said : (s : Said V) → (elim (said_choice s) [ Some b ↦ same first b | None ↦ false ]) ≡ is_choice first s
-    by_said silent = refl
-    by_said (chose b) = refl
-    by_said (reads v) = refl
+module _ {V : Type 0} (k : Meaning V) (x : Inputs) (place : ℕ) (first : Bool) (j from : ℕ) where
+  pub found_stays : (flag still : Bool) → flag ≡ true → (m : List ℕ) → m ≡ tree_of k x j → (o : Option Bool)
+      → ((rs : List (Rec V)) (low number : ℕ) → Readable k m rs → Stands k m rs low from → low ≤ place → o ≡ said_choice (says number place rs))
+      → still ≡ option_eq beq o (Some first) → Stays k x place first j from flag still
+  found_stays flag still aligned m is o found e = λ rs low number readable stands le.
+      e
+      ∙ ap (λ (p : Option Bool). option_eq beq p (Some first))
+      (found rs low number (subst (λ (t : List ℕ). Readable k t rs) (sym is) readable) (subst (λ (t : List ℕ). Stands k t rs low from) (sym is) stands) le)
+      ∙ by_said first (says number place rs)
+      ∙ ap (λ (b : Bool). b && is_choice first (says number place rs)) (sym aligned)
+    where
+      by_choice : (b first : Bool) → beq b first ≡ same first b
+      by_choice true true = refl
+      by_choice true false = refl
+      by_choice false true = refl
+      by_choice false false = refl
+
+      by_said : (first : Bool) (s : Said V) → option_eq beq (said_choice s) (Some first) ≡ is_choice first s
+      by_said first silent = refl
+      by_said first (chose b) = by_choice b first
+      by_said first (reads v) = refl
+
+  pub apart_stays : (flag still : Bool) → flag ≡ false → still ≡ flag → Stays k x place first j from flag still
+  apart_stays flag still apart e = λ rs low number readable stands le.
+      e ∙ apart ∙ ap (λ (b : Bool). b && is_choice first (says number place rs)) (sym apart)

@@ -1,4 +1,4 @@
+pub mod Laying
 pub mod Hearers
 pub mod Following
 pub mod Sounding
-pub mod Filling

@@ -1,12 +1,14 @@
 -- What a row has in the cell of the own number, and in that of the j-th held sender.
-use Rattle.std.proofs.Common.{◌≡◌, ℕ, zero, suc, ◌+◌, ◌<◌, Bool, cond, ◌≢◌, List, [], ◌∷◌, map, length, get_or, unwrap_or, sym, refl, ap, ◌∙◌, arith, eq-eqb, ne_eqb}
+use Rattle.std.proofs.Common.{◌≡◌, ℕ, zero, suc, ◌+◌, ◌<◌, ◌≤◌, Bool, true, false, cond, ◌≢◌, List, [], ◌∷◌, map, length, get_or, Option, unwrap_or, sym, refl, ap, ◌∙◌, subst, arith, eq-eqb, ne_eqb}
 use Rattle.kind.specs.Kind.{Meaning}
-use Rattle.record.specs.Trees.{Said, silent, chose, reads, says}
-use Rattle.rules.specs.Rules.{at, elsewhere, Sender, Given, senders, or_else, hears, link_to, links, received}
+use Rattle.record.specs.Trees.{Rec, Said, silent, chose, reads, says}
+use Rattle.rules.specs.Rules.{at, Sender, Given, senders, or_else, hears, link_to, links, received}
 use Rattle.rules.specs.Laws.{Apart, from, Orderly}
-use Rattle.cursor.specs.Cursors.{said_value}
-use Rattle.hearing.specs.Hearing.{spots}
-use Rattle.hearing.specs.Cells.{spot_of}
+use Rattle.cursor.specs.Cursors.{Readable, Stands, said_value}
+use Rattle.hearing.specs.declared.inputs.Inputs.{Inputs}
+use Rattle.hearing.specs.declared.cursors.Cursors.{Cursors}
+use Rattle.hearing.specs.Hearing.{spots, tree_of}
+use Rattle.hearing.specs.Cells.{HeardAt}
 use Rattle.hearing.proofs.Hearers.{hears_nth, link_nth}
 
 module _ {V : Type 0} where
@@ -14,15 +16,6 @@ module _ {V : Type 0} where
   apart_at n [] a j d h = absurd (omega (arith, h))
   apart_at n (s ∷ ss) (from ne a) zero d h = ne
   apart_at n (s ∷ ss) (from ne a) (suc j) d h = apart_at n ss a j d (omega (arith, h))
-
-  spot_in : (ss : List (Sender V)) (j : ℕ) (d : Sender V) → j < length ss → get_or (map at (senders ss)) j elsewhere ≡ at (get_or ss j d).number
-  spot_in [] j d h = absurd (omega (arith, h))
-  spot_in (s ∷ ss) zero d h = refl
-  spot_in (s ∷ ss) (suc j) d h = spot_in ss j d (omega (arith, h))
-
-  -- the cells of the senders come behind two others
-  pub spot_held : (g : Given V) (i j : ℕ) (d : Sender V) → i ≡ 2 + j → j < length g.held → spot_of g i ≡ at (get_or g.held j d).number
-  spot_held g i j d e h = ap (spot_of g) (let f : i ≡ suc (suc j) = omega arith in f) ∙ spot_in g.held j d h
 
   long_spots : (ss : List (Sender V)) → length (map at (senders ss)) ≡ length ss
   long_spots [] = refl
@@ -59,3 +52,27 @@ module _ {V : Type 0} where
         let n = (get_or g.held j d).number in
         ap (λ (b : Bool). cond b k.own (link_to k.unknown n g.held)) (ne_eqb n g.number (λ e. apart_at g.number g.held o.apart j d h (sym e)))
         ∙ link_nth k.unknown g.held o.rising j d h
+
+-- what is received of an aligned sender, where its tree says this, and of another
+module _ {V : Type 0} (k : Meaning V) (x : Inputs) (flags : List Bool) (p : ℕ) (c : Cursors) (initial : V) (j : ℕ) where
+  pub heard_aligned : get_or flags j false ≡ true → (m : List ℕ) → m ≡ tree_of k x j → (said : Option V)
+      → ((rs : List (Rec V)) (low : ℕ) → Readable k m rs → Stands k m rs low (get_or c.senders j 0) → low ≤ p → said ≡ said_value (says x.node p rs))
+      → HeardAt k x flags p c initial j (unwrap_or said initial)
+  heard_aligned aligned m is said says_it = record {
+    is = λ g al low d gives each stands le l.
+        let rs = (get_or g.held j d).tree in
+        ap (λ (o : Option V). unwrap_or o initial)
+        (says_it rs low
+        (subst (λ (t : List ℕ). Readable k t rs) (sym is) (gives.trees j d l))
+        (subst (λ (t : List ℕ). Stands k t rs low (get_or c.senders j 0)) (sym is) (stands.senders j d l)) le)
+        ∙ ap (λ (n : ℕ). unwrap_or (said_value (says n p rs)) initial) (sym gives.number)
+        ∙ or_else_said initial (says g.number p rs)
+        ∙ sym (received_held g al p initial gives.orderly j d l ∙ ap (λ (b : Bool). cond b (or_else initial (says g.number p rs)) initial) (sym (each.is j d l) ∙ aligned));
+  }
+
+  pub heard_apart : get_or flags j false ≡ false → HeardAt k x flags p c initial j initial
+  heard_apart apart = record {
+    is = λ g al low d gives each stands le l.
+        let rs = (get_or g.held j d).tree in
+        sym (received_held g al p initial gives.orderly j d l ∙ ap (λ (b : Bool). cond b (or_else initial (says g.number p rs)) initial) (sym (each.is j d l) ∙ apart));
+  }

@@ -12,3 +12,5 @@ pub struct Inputs<'a> {
     pub own: &'a [u8],
     pub readings: &'a [u8],
 }
+
+mod items;

@@ -1,9 +1,9 @@
-ghost use Rattle.std.specs.Prelude.{◌≡◌, ◌+◌, ◌<◌, ◌≤◌, length};
+ghost use Rattle.std.specs.Prelude.{◌≡◌, ◌+◌, ◌≤◌, length};
 ghost use Rattle.program.specs.Programs.{shown, run_of};
 ghost use Rattle.record.specs.Plans.{due};
 ghost use Rattle.rules.specs.Held.{held_in};
 ghost use Rattle.held.specs.Slots.{Loaded};
-ghost use Rattle.held.specs.Loading.{ReadsItem, is_held, Keeps};
+ghost use Rattle.held.specs.Loading.{ReadsItem, is_held};
 
 use crate::slots::Slots;
 use inbox::inbox::Inbox;
@@ -31,28 +31,6 @@ fn counts<K: Kind>(program: &ProgramFor<'_, K>, node: u16, sender: u16, item: &[
     K::read(link).is_some() && read::<K>(program.program(), node, tree) == Ok(sender)
 }
 
-/// The slots, and the item behind them if it counts.
-fn keep<K: Kind>(
-    program: &ProgramFor<'_, K>,
-    node: u16,
-    slots: Slots,
-    sender: u16,
-    size: usize,
-    bytes: &[u8],
-) -> Slots
-    requires free { slots.count < 16 }
-    requires short { size ≤ 2064 }
-    requires room { 33024 ≤ length bytes.now }
-    ensures { Keeps K.Kind.meaning program.now.program.now node bytes.now slots sender size result }
-{
-    let start = slots.count * LONGEST_ITEM;
-    if counts::<K>(program, node, sender, &bytes[start..start + size]) {
-        slots.with(sender, size)
-    } else {
-        slots
-    }
-}
-
 /// Reads each held item once into the bytes, and keeps those that are a link and a tree of their sender.
 /// An inner function: there are bytes for sixteen items.
 pub fn load<K: Kind, I: Inbox>(
@@ -65,10 +43,14 @@ pub fn load<K: Kind, I: Inbox>(
     ensures { Loaded K.Kind.meaning program.now.program.now node bytes.new result (held_in K.Kind.meaning (due (run_of program.now.program.now) 0) (shown program.now.program.now).header.number node (I.Inbox.meaning inbox.now).items) }
 {
     let mut slots = Slots::empty();
+    // By numbers: an inbox tells the next sender from a number on, and has no iterator.
     let mut from = 0;
     while let Some(sender) = inbox.next(from) {
-        let size = read_item(inbox, sender, bytes, slots.count * LONGEST_ITEM);
-        slots = keep::<K>(program, node, slots, sender, size, bytes);
+        let start = slots.count * LONGEST_ITEM;
+        let size = read_item(inbox, sender, bytes, start);
+        if counts::<K>(program, node, sender, &bytes[start..start + size]) {
+            slots = slots.with(sender, size);
+        }
         let Some(next) = sender.checked_add(1) else {
             break;
         };

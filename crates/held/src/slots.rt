@@ -3,7 +3,7 @@ ghost use Rattle.std.specs.Prelude.{◌≡◌, ◌≤◌, length};
 /// Where the items of the senders lie that a round holds: that of sender j from j × 2,064 on, with so many bytes.
 #[derive(Clone, Copy)]
 pub struct Slots {
-    // Apart from the lengths, for what is sent is put from the numbers as one slice.
+    // Apart from the lengths, under one count: what is sent is put from the numbers as one slice.
     pub numbers: [u16; 16],
     pub lengths: [usize; 16],
     pub count: usize,

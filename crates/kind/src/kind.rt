@@ -3,7 +3,8 @@ ghost use Rattle.kind.specs.Kind.{Meaning, Lawful};
 
 /// A kind of value: what a program computes with.
 ///
-/// `meaning` says what each function answers, as a function of the operands alone, and `lawful` what every kind shows of it.
+/// `meaning` says what each constant is and what each function answers, as a function of the operands alone, and `lawful`
+/// what every kind shows of it. Each constant has a ghost member of its name, which contracts can cite.
 pub trait Kind {
     /// The values of the kind.
     type Value: Copy + Eq;
@@ -39,7 +40,7 @@ pub trait Kind {
     fn truth(v: Self::Value) -> bool
         ensures { result ≡ meaning.truth v };
 
-    /// The operator of that number on two values. Every number has an answer; a program names only those below `operator_count`.
+    /// The operator of that number on two values. Every number has an answer; a program names only those below `OPERATORS`.
     fn apply(operator: u8, a: Self::Value, b: Self::Value) -> Self::Value
         ensures { result ≡ meaning.apply operator a b };
 
@@ -65,7 +66,7 @@ pub trait Kind {
 
     ghost own_is: { OWN ≡ meaning.own };
 
-    ghost same_is: { (a b : Self.Value) → Self.Value.eq a b ≡ meaning.same a b };
-
     ghost unknown_is: { UNKNOWN ≡ meaning.unknown };
+
+    ghost same_is: { (a b : Self.Value) → Self.Value.eq a b ≡ meaning.same a b };
 }

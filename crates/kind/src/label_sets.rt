@@ -12,25 +12,29 @@ pub struct LabelSets;
 impl Kind for LabelSets {
     type Value = LabelSet;
 
+    ghost meaning = { meaning_of_label_sets };
+
     const NUMBER: u8 = 2;
-
-    const WIDTH: usize = 8;
-
-    const OWN: LabelSet = LabelSet::EMPTY;
-
-    const UNKNOWN: LabelSet = LabelSet::EMPTY;
-
-    const OPERATORS: u8 = 5;
 
     ghost NUMBER = { 2 };
 
+    const WIDTH: usize = 8;
+
     ghost WIDTH = { 8 };
+
+    const OPERATORS: u8 = 5;
 
     ghost OPERATORS = { 5 };
 
+    const OWN: LabelSet = LabelSet::EMPTY;
+
     ghost OWN = { meaning_of_label_sets.own };
 
+    const UNKNOWN: LabelSet = LabelSet::EMPTY;
+
     ghost UNKNOWN = { meaning_of_label_sets.unknown };
+
+    ghost lawful = { label_sets_lawful };
 
     ghost number_is = { refl };
 
@@ -40,13 +44,9 @@ impl Kind for LabelSets {
 
     ghost own_is = { refl };
 
-    ghost same_is = { λ a b. refl };
-
     ghost unknown_is = { refl };
 
-    ghost meaning = { meaning_of_label_sets };
-
-    ghost lawful = { label_sets_lawful };
+    ghost same_is = { λ a b. refl };
 
     fn truth(v: LabelSet) -> bool {
         v.truth()

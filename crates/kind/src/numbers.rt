@@ -12,25 +12,29 @@ pub struct Numbers;
 impl Kind for Numbers {
     type Value = Number;
 
+    ghost meaning = { meaning_of_numbers };
+
     const NUMBER: u8 = 1;
-
-    const WIDTH: usize = 4;
-
-    const OWN: Number = Number::ZERO;
-
-    const UNKNOWN: Number = Number::LARGEST;
-
-    const OPERATORS: u8 = 10;
 
     ghost NUMBER = { 1 };
 
+    const WIDTH: usize = 4;
+
     ghost WIDTH = { 4 };
+
+    const OPERATORS: u8 = 10;
 
     ghost OPERATORS = { 10 };
 
+    const OWN: Number = Number::ZERO;
+
     ghost OWN = { meaning_of_numbers.own };
 
+    const UNKNOWN: Number = Number::LARGEST;
+
     ghost UNKNOWN = { meaning_of_numbers.unknown };
+
+    ghost lawful = { numbers_lawful };
 
     ghost number_is = { refl };
 
@@ -40,13 +44,9 @@ impl Kind for Numbers {
 
     ghost own_is = { refl };
 
-    ghost same_is = { λ a b. same_by_difference a.value b.value };
-
     ghost unknown_is = { refl };
 
-    ghost meaning = { meaning_of_numbers };
-
-    ghost lawful = { numbers_lawful };
+    ghost same_is = { λ a b. same_by_difference a.value b.value };
 
     fn truth(v: Number) -> bool {
         v.truth()

@@ -9,6 +9,7 @@ use std::marker::PhantomData;
 pub mod suiting;
 
 /// A checked program that is for the kind.
+#[derive(Drop)]
 pub struct ProgramFor<'p, K: Kind> {
     program: &'p Program,
     kind: PhantomData<K>,

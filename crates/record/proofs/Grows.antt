@@ -1,7 +1,7 @@
 -- Outputs that grow. Assumes nothing.
-use Rattle.std.proofs.Common.{◌≡◌, ℕ, zero, suc, ◌+◌, ◌-◌, ◌/◌, ◌%◌, ◌≤◌, Bool, true, false, cond, List, [], ◌∷◌, ◌++◌, length, take, drop, set, sym, refl, ap, ◌∙◌, subst, append_assoc, append-nil, arith, length-append, length-drop, length-take, drop-drop, take_at, take-add, drop_at}
+use Rattle.std.proofs.Common.{◌≡◌, ℕ, zero, suc, ◌+◌, ◌-◌, ◌≤◌, Bool, true, false, cond, List, [], ◌∷◌, ◌++◌, length, take, drop, set, sym, refl, ap, ◌∙◌, subst, append_assoc, append-nil, arith, length-append, length-drop, length-take, drop-drop, take_at, take-add, drop_at}
 use mir.Val.{bool_byte}
-use Rattle.record.specs.Fields.{part, pair_of, quad_of}
+use Rattle.record.specs.Fields.{part}
 use Rattle.record.specs.declared.output.Output.{Output}
 use Rattle.record.specs.Growth.{Grown, Puts}
 
@@ -66,10 +66,3 @@ grown_part {old} {new} {more} {used} {top} g room =
     let new-long = ap length g.front in
     let same : length (take used new) ≡ used = simp length-take (let e = simp (length-append, length-take) at new-long in let r = g.room in omega arith) in
     sym (drop_at (take used new) (part new used (top - used)) used same) ∙ ap (drop used) both ∙ drop_at (take used old) more used long
-
-pub quad_is : (n : ℕ) → pair_of (n / 65536) ++ pair_of (n % 65536) ≡ quad_of n
-quad_is n =
-    let a : n / 65536 / 256 ≡ n / 16777216 = omega arith in
-    let b : n % 65536 / 256 ≡ n / 256 % 256 = omega arith in
-    let c : n % 65536 % 256 ≡ n % 256 = omega arith in
-    λ i. a i ∷ n / 65536 % 256 ∷ b i ∷ c i ∷ []

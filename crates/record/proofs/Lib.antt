@@ -1,11 +1,11 @@
 pub mod Rows
 pub mod Spans
+pub mod Counting
 pub mod Inverse
 pub mod Written
 pub mod Canonical
 pub mod Numbers
 pub mod Grows
-pub mod Headed
 pub mod Places
 pub mod Weights
 pub mod Agreement

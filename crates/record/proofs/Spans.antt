@@ -1,7 +1,8 @@
 -- Bytes that stand in a message at a position. Assumes nothing.
-use Rattle.std.proofs.Common.{◌≡◌, ℕ, zero, suc, ◌+◌, ◌/◌, ◌%◌, ◌<◌, ◌≤◌, List, [], ◌∷◌, ◌++◌, length, get_or, take, drop, sym, refl, ap, ◌∙◌, subst, arith, length-append, length-drop, length-take, get_or-drop, drop-cons, drop-drop, take-add}
+use Rattle.std.proofs.Common.{◌≡◌, ℕ, zero, suc, ◌+◌, ◌-◌, ◌*◌, ◌/◌, ◌%◌, ◌<◌, ◌≤◌, List, [], ◌∷◌, ◌++◌, length, get_or, take, drop, sym, refl, ap, ◌∙◌, subst, arith, length-append, length-drop, length-take, get_or-drop, drop-cons, drop-drop, take-add}
+use Rattle.std.proofs.lemmas.List.{get_or-take, drop-take, take-take}
 use lib.Seq.{take-append_seam, drop-append_seam}
-use Rattle.record.specs.Fields.{Bytes, pair_at, part, pair_of}
+use Rattle.record.specs.Fields.{Bytes, byte_at, pair_at, part, pair_of}
 
 pub record Spans (m : List ℕ) (at : ℕ) (xs : List ℕ) : Type 0 where
   pub room : at + length xs ≤ length m
@@ -82,6 +83,23 @@ pair_spans m at b h =
     let x : get_or m at 0 ≡ pair_at m at / 256 = omega arith in
     let y : get_or m (at + 1) 0 ≡ pair_at m at % 256 = omega arith in
     spans_both {xs = pair_at m at / 256 ∷ []} {ys = pair_at m at % 256 ∷ []} (spans_is (ap (λ (z : ℕ). z ∷ []) x) (byte_spans m at (omega arith))) (spans_is (ap (λ (z : ℕ). z ∷ []) y) (byte_spans m (at + 1) (omega arith)))
+
+-- a part of a part, and a byte and a pair of one
+pub part_part : (m : List ℕ) (at n i k : ℕ) → i + k ≤ n → part (part m at n) i k ≡ part m (at + i) k
+part_part m at n i k h =
+    let l : n ≡ i + (n - i) = omega arith in
+    let le : k ≤ n - i = omega arith in
+    ap (λ z. take k (drop i (take z (drop at m)))) l ∙ ap (take k) (drop-take i (n - i) (drop at m)) ∙ take-take k (n - i) (drop i (drop at m)) le ∙ ap (take k) (drop-drop i at m)
+
+pub byte_part : (m : List ℕ) (at n i : ℕ) → i < n → byte_at (part m at n) i ≡ byte_at m (at + i)
+byte_part m at n i h = get_or-take n (drop at m) i 0 h ∙ get_or-drop at m i 0
+
+pub pair_part : (m : List ℕ) (at n : ℕ) → 2 ≤ n → pair_at (part m at n) 0 ≡ pair_at m at
+pair_part m at n h =
+    let e : at + 0 ≡ at = omega arith in
+    let high = byte_part m at n 0 (omega arith) ∙ ap (byte_at m) e in
+    let low = byte_part m at n 1 (omega arith) in
+    λ j. high j * 256 + low j
 
 -- a number in a part is that in the message
 pub bytes_part : (m : List ℕ) (at n : ℕ) → Bytes m → Bytes (part m at n)

@@ -1,5 +1,5 @@
 -- Records with their values, in the order of the checks. Assumes nothing.
-use Rattle.std.specs.Prelude.{ℕ, zero, suc, ◌+◌, cond, not, List, [], ◌∷◌, Some, None, Ok, Option, ◌==◌, nat_le}
+use Rattle.std.specs.Prelude.{ℕ, zero, suc, ◌+◌, cond, not, List, [], ◌∷◌, drop, Some, None, Ok, Option, ◌==◌, nat_le}
 use Rattle.refusal.specs.Outcomes.{Outcome, refuse, after, must}
 use Rattle.refusal.specs.declared.cause.Cause.TheVariants as cause
 use Rattle.kind.specs.Kind.{Meaning}
@@ -19,6 +19,14 @@ behind w zero at = at
 behind w (suc n) at = behind w n (at + (2 + w))
 
 module _ {V : Type 0} (k : Meaning V) where
+  -- one entry, whose bytes bs stand in the message at a position: the least number of the next, if this one's is at least `low`
+  abbrev pub next_low : V → ℕ → List ℕ → ℕ → Outcome ℕ
+  next_low d at bs low =
+      after (allowed (at + 2) (k.read (drop 2 bs))) (λ v.
+      after (must (nat_le low (pair_at bs 0)) cause.EntryRefused at) (λ _.
+      after (must (not (k.same v d)) cause.EntryRefused (at + 2)) (λ _.
+      Ok (pair_at bs 0 + 1))))
+
   -- n entries at a position of the bytes bs, which stand in the message from `base` on; no number is below `low`
   abbrev pub entries : V → ℕ → List ℕ → ℕ → ℕ → ℕ → Outcome (List (Entry V))
   entries d base bs zero low at = Ok []

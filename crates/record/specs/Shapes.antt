@@ -1,5 +1,5 @@
 -- Records by their shape: the parts of a message that they are made of. Assumes nothing.
-use Rattle.std.specs.Prelude.{ℕ, ◌+◌, ◌*◌, Bool, cond, ◌&&◌, List, length, Some, None, Ok, Err, Option, ◌==◌, nat_le}
+use Rattle.std.specs.Prelude.{ℕ, ◌+◌, ◌*◌, Bool, cond, ◌&&◌, List, length, take, drop, Some, None, Ok, Err, Option, ◌==◌, nat_le}
 use Rattle.refusal.specs.Outcomes.{Outcome, after, must}
 use Rattle.refusal.specs.declared.cause.Cause.TheVariants as cause
 use Rattle.record.specs.Fields.{byte_at, pair_at, part}
@@ -23,6 +23,10 @@ shown (case.Exchange offset place default count entries) = sending offset place.
 abbrev pub end_at : List ℕ → ℕ → ℕ
 end_at m at = at + 2 + pair_at m at
 
+-- what the record at a position counts: the bytes behind its count, if they are all there
+abbrev pub counted_at : List ℕ → ℕ → Option (List ℕ)
+counted_at m at = cond (nat_le (at + 2) (length m) && nat_le (end_at m at) (length m)) (Some (part m (at + 2) (pair_at m at))) None
+
 -- the most entries of a record
 abbrev pub most_entries : ℕ
 most_entries = 17
@@ -37,6 +41,13 @@ abbrev pub shape : Body → ℕ → List ℕ → ℕ → Shape
 shape body.Choice w m at = choosing at (part m (at + 2) 2) (part m (at + 4) 1)
 shape body.Exchange w m at =
     sending at (part m (at + 2) 2) (part m (at + 4) w) (byte_at m (at + 4 + w)) (part m (at + 5 + w) (byte_at m (at + 4 + w) * (2 + w)))
+
+-- the record at a position whose counted bytes these are
+abbrev pub shape_of : Body → ℕ → ℕ → List ℕ → Option Shape
+shape_of body.Choice w at bs = cond (length bs == 3) (Some (choosing at (take 2 bs) (drop 2 bs))) None
+shape_of body.Exchange w at bs =
+    cond (nat_le (3 + w) (length bs) && nat_le (byte_at bs (2 + w)) most_entries && length bs == 3 + w + byte_at bs (2 + w) * (2 + w))
+    (Some (sending at (take 2 bs) (take w (drop 2 bs)) (byte_at bs (2 + w)) (drop (3 + w) bs))) None
 
 -- the record at a position, where one with this body is due
 abbrev pub shape_at : Body → ℕ → List ℕ → ℕ → Outcome Shape

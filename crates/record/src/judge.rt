@@ -1,10 +1,10 @@
-ghost use Rattle.std.specs.Prelude.{◌≡◌, ◌+◌, ◌^◌, ◌<◌, ◌≤◌, length, IfOk, ◌==◌};
+ghost use Rattle.std.specs.Prelude.{◌≡◌, ℕ, ◌+◌, ◌^◌, ◌<◌, ◌≤◌, length, IfOk, ◌==◌};
 ghost use Rattle.refusal.specs.Outcomes.{mapped, must};
 ghost use Rattle.refusal.specs.declared.cause.Cause.TheVariants.{PlaceNotDue};
-ghost use Rattle.record.specs.Fields.{pair_at, part};
+ghost use Rattle.record.specs.Fields.{pair_at};
 ghost use Rattle.record.specs.Forms.{Formed};
 ghost use Rattle.record.specs.Headers.{most_bytes};
-ghost use Rattle.record.specs.Records.{allowed, behind, entries as entries_of, judged, record_at};
+ghost use Rattle.record.specs.Records.{allowed, behind, entries as entries_of, judged, next_low, record_at};
 ghost use Rattle.record.specs.Shapes.{shown};
 ghost use Rattle.record.specs.Trees.{is_first};
 
@@ -13,51 +13,55 @@ use kind::kind::Kind;
 use refusal::cause::Cause;
 use refusal::refused::Refusal;
 
-// The value in the W bytes at `at`, which stand in the message at `base + at`.
-fn value<K: Kind>(bytes: &[u8], at: usize, base: usize) -> Result<K::Value, Refusal>
-    requires inside { at + K.Kind.meaning.width ≤ length bytes.now }
-    requires short { base + length bytes.now < 2 ^ 32 }
-    ensures { result ≡ allowed (base + at) (K.Kind.meaning.read (part bytes.now at K.Kind.meaning.width)) }
+// The value in these W bytes, which stand in the message at `at`.
+fn value<K: Kind>(bytes: &[u8], at: usize) -> Result<K::Value, Refusal>
+    requires { length bytes.now ≡ K.Kind.meaning.width }
+    ensures { result ≡ allowed at (K.Kind.meaning.read bytes.now) }
 {
-    match K::read(&bytes[at..at + K::WIDTH]) {
-        Some(v) => Ok(v),
-        None => Err(Refusal {
-            cause: Cause::ValueRefused,
-            position: base + at,
-        }),
-    }
+    K::read(bytes).ok_or(Refusal {
+        cause: Cause::ValueRefused,
+        position: at,
+    })
 }
 
-// Whether `count` entries rise, each with a value that is not the default. They stand in the message from `base` on.
-fn check_entries<K: Kind>(
+// Checks an entry, which stands in the message at `at`: its number is at least `low`, and its value is not the default.
+// Answers the least number of the next.
+fn check_entry<K: Kind>(
     default: K::Value,
-    base: usize,
-    entries: &[u8],
-    count: usize,
-) -> Result<(), Refusal>
-    requires fit { behind K.Kind.meaning.width count 0 ≤ length entries.now }
-    requires short { base + length entries.now < 2 ^ 32 }
-    ensures { result ≡ mapped (λ _. tt) (entries_of K.Kind.meaning default base entries.now count 0 0) }
+    at: usize,
+    entry: &[u8],
+    low: usize,
+) -> Result<usize, Refusal>
+    requires long { length entry.now ≡ 2 + K.Kind.meaning.width }
+    requires short { at < 2 ^ 32 }
+    ensures is { result ≡ next_low K.Kind.meaning default at entry.now low }
+    ensures small { IfOk result (λ x. x ≤ 65536) }
+{
+    let number = pair(entry, 0);
+    let v = value::<K>(&entry[2..], at + 2)?;
+    if number < low {
+        return Err(Refusal {
+            cause: Cause::EntryRefused,
+            position: at,
+        });
+    }
+    if v == default {
+        return Err(Refusal {
+            cause: Cause::EntryRefused,
+            position: at + 2,
+        });
+    }
+    Ok(number + 1)
+}
+
+// Whether entries rise, each with a value that is not the default. They stand in the message from `base` on.
+fn check_entries<K: Kind>(default: K::Value, base: usize, entries: &[u8]) -> Result<(), Refusal>
+    requires { base + length entries.now < 2 ^ 32 }
+    ensures { (n : ℕ) → behind K.Kind.meaning.width n 0 ≡ length entries.now → result ≡ mapped (λ _. tt) (entries_of K.Kind.meaning default base entries.now n 0 0) }
 {
     let mut low = 0;
-    let mut at = 0;
-    for _ in 0..count {
-        let v = value::<K>(entries, at + 2, base)?;
-        let number = pair(entries, at);
-        if number < low {
-            return Err(Refusal {
-                cause: Cause::EntryRefused,
-                position: base + at,
-            });
-        }
-        if v == default {
-            return Err(Refusal {
-                cause: Cause::EntryRefused,
-                position: base + (at + 2),
-            });
-        }
-        low = number + 1;
-        at += 2 + K::WIDTH;
+    for (i, entry) in entries.chunks_exact(2 + K::WIDTH).enumerate() {
+        low = check_entry::<K>(default, base + i * entry.len(), entry, low)?;
     }
     Ok(())
 }
@@ -102,17 +106,12 @@ pub fn judge<K: Kind>(found: Record<'_>, due: usize) -> Result<bool, Refusal>
             offset,
             place,
             default,
-            count,
             entries,
+            ..
         } => {
             check_place(offset, place, due)?;
-            let Some(v) = K::read(default) else {
-                return Err(Refusal {
-                    cause: Cause::ValueRefused,
-                    position: offset + 4,
-                });
-            };
-            check_entries::<K>(v, offset + 5 + K::WIDTH, entries, count)?;
+            let v = value::<K>(default, offset + 4)?;
+            check_entries::<K>(v, offset + 5 + K::WIDTH, entries)?;
             Ok(false)
         }
     }

@@ -3,6 +3,7 @@ ghost use Rattle.record.specs.Fields.{pair_of};
 ghost use Rattle.record.specs.Growth.{Puts};
 
 /// An output, of which the first `len` bytes are written.
+// The length stands beside the bytes: the caller lends them, and nothing here allocates a list that grows.
 #[derive(Drop)]
 pub struct Output<'a> {
     pub bytes: &'a mut [u8],
@@ -25,7 +26,8 @@ impl<'a> Output<'a> {
         requires small { n < 65536 }
         ensures { Puts self.old self.new (pair_of n) }
     {
-        self.put((n / 256) as u8);
-        self.put((n % 256) as u8);
+        let [high, low] = (n as u16).to_be_bytes();
+        self.put(high);
+        self.put(low);
     }
 }

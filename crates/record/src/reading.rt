@@ -1,4 +1,4 @@
-ghost use Rattle.std.specs.Prelude.{◌≡◌, ◌+◌, ◌^◌, ◌<◌, ◌≤◌, length};
+ghost use Rattle.std.specs.Prelude.{◌≡◌, ℕ, length};
 ghost use Rattle.record.specs.Forms.{Formed, reads_at};
 ghost use Rattle.record.specs.Headers.{most_bytes};
 ghost use Rattle.record.specs.Records.{behind, bytes_at};
@@ -7,24 +7,14 @@ ghost use Rattle.record.specs.Shapes.{shown};
 use crate::record::{Record, pair};
 use kind::kind::Kind;
 
-// The bytes of the one of `count` entries that has this number, or else the default's.
-fn find_entry<'m>(
-    width: usize,
-    number: usize,
-    default: &'m [u8],
-    entries: &'m [u8],
-    count: usize,
-) -> &'m [u8]
-    requires fit { behind width count 0 ≤ length entries.now }
-    requires short { length entries.now < 2 ^ 32 }
-    ensures { result.now ≡ bytes_at width number default.now entries.now count 0 }
+// The bytes of the value of the entry that has this number, or else the default's.
+fn find_entry<'m, K: Kind>(number: usize, default: &'m [u8], entries: &'m [u8]) -> &'m [u8]
+    ensures { (n : ℕ) → behind K.Kind.meaning.width n 0 ≡ length entries.now → result.now ≡ bytes_at K.Kind.meaning.width number default.now entries.now n 0 }
 {
-    let mut at = 0;
-    for _ in 0..count {
-        if pair(entries, at) == number {
-            return &entries[at + 2..at + 2 + width];
+    for entry in entries.chunks_exact(2 + K::WIDTH) {
+        if pair(entry, 0) == number {
+            return &entry[2..];
         }
-        at += 2 + width;
     }
     default
 }
@@ -39,9 +29,8 @@ pub fn read_at<K: Kind>(found: Record<'_>, number: usize) -> Option<K::Value>
         Record::Choice { .. } => None,
         Record::Exchange {
             default,
-            count,
             entries,
             ..
-        } => K::read(find_entry(K::WIDTH, number, default, entries, count)),
+        } => K::read(find_entry::<K>(number, default, entries)),
     }
 }

@@ -6,7 +6,7 @@ ghost use Rattle.record.specs.Shapes.{most_entries};
 ghost use Rattle.record.specs.Trees.{Rec, choice};
 ghost use Rattle.record.specs.Writing.{written_entry, written_head, written_record, written_records, written_tree};
 
-use crate::header::{COUNT_OFFSET, VERSION};
+use crate::header::{COUNT_OFFSET, HEADER_LENGTH, VERSION};
 use crate::output::Output;
 use kind::kind::Kind;
 use kind::output::write_at;
@@ -66,12 +66,18 @@ pub fn put_header<K: Kind>(output: &mut Output<'_>, program: u32, sender: u16)
     ensures bytes { output.new.bytes.now ≡ written_header program sender (output.old.len - header_length) ++ drop header_length output.old.bytes.now }
     ensures tree { (rs : List (Rec (K.Value))) → part output.old.bytes.now header_length (output.old.len - header_length) ≡ written_records K.Kind.meaning rs → take output.new.len output.new.bytes.now ≡ written_tree K.Kind.meaning program (record { sender = sender; records = rs }) }
 {
-    let len = output.len;
-    output.len = 0;
-    output.put(VERSION);
-    output.pair(len - (COUNT_OFFSET + 2));
-    output.pair((program / 65536) as usize);
-    output.pair((program % 65536) as usize);
-    output.pair(sender as usize);
-    output.len = len;
+    write_header(output.bytes, output.len - HEADER_LENGTH, program, sender);
+}
+
+// Writes the header of a tree whose records have `len` bytes over the front of the bytes.
+fn write_header(bytes: &mut [u8], len: usize, program: u32, sender: u16)
+    requires room { header_length ≤ length bytes.old }
+    requires short { len ≤ most_bytes }
+    ensures { bytes.new ≡ written_header program sender len ++ drop header_length bytes.old }
+{
+    let count = HEADER_LENGTH + len - (COUNT_OFFSET + 2);
+    let [high, low] = (count as u16).to_be_bytes();
+    let [a, b, c, d] = program.to_be_bytes();
+    let [x, y] = sender.to_be_bytes();
+    bytes[..HEADER_LENGTH].copy_from_slice(&[VERSION, high, low, a, b, c, d, x, y]);
 }

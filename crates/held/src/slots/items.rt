@@ -5,6 +5,7 @@ use super::Slots;
 use crate::part::part;
 use inbox::limits::LONGEST_ITEM;
 
+// A slot is named by its index below the count, as an element of a slice is.
 impl Slots {
     // No slot is taken.
     pub(crate) fn empty() -> Slots

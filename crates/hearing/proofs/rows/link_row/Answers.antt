@@ -1,34 +1,26 @@
-use Rattle.std.proofs.Common.{◌≡◌, refl, ◌∙◌, arith}
-use Rattle.rules.specs.Rules.{elsewhere, links}
-use Rattle.hearing.specs.Hearing.{spots}
-use Rattle.hearing.proofs.Sounding.{spots_long}
-use Rattle.hearing.proofs.Filling.{none_filled, more_filled, filled_long, all_filled, map_of_cells}
+use Rattle.std.proofs.Common.{◌≡◌, ◌∷◌, [], get_or, Option, unwrap_or, rules, sym, ap, ◌∙◌, arith}
+use Rattle.rules.specs.Rules.{Sender, links}
+use Rattle.held.proofs.Senders.{loaded_link}
+use Rattle.hearing.specs.Cells.{link_of}
+use Rattle.hearing.proofs.Laying.{each_sender}
+use Rattle.hearing.proofs.Sounding.{links_own, links_held}
 use Rattle.hearing.proofs.rows.link_row.Goals as goal
-
-pub loop-i-init : goal.loop-i-init
-loop-i-init g c = none_filled _ _
-
-pub bounds-rows-base : goal.bounds-rows-base
-bounds-rows-base g c =
-    let long = filled_long c.args.rows.now c.loop-i.rows c.args.base c.loop-i.i c.loop-i.invariant (omega arith) in
-    omega arith
-
-pub loop-i-preserved : goal.loop-i-preserved
-loop-i-preserved g c =
-    more_filled c.args.rows.now c.loop-i.rows _ c.args.base c.loop-i.i c.linked_cell.result c.loop-i.invariant refl refl refl (omega arith) c.linked_cell.ensures
 
 pub returns : goal.returns
 returns g c =
     let k = g.K.Kind.meaning in
-    let f = c.loop-i.invariant in
-    let end : c.loop-i.i ≡ c.args.rows.now.width = omega arith in
-    let long = f.long in
+    let f = c.lay.ensures in
     record {
-      row = f.row;
-      laid = all_filled c.args.rows.now c.loop-i.rows c.args.base c.loop-i.i f end;
-      wide = long ∙ end;
+      row = c.UNKNOWN.result ∷ c.OWN.result ∷ f.held;
+      laid = f.laid;
+      wide = f.wide;
       means = λ h gives.
+          let d : Sender g.row.K-Value.Denot = record { number = 0; link = k.own; tree = [] } in
           let many = gives.held.many in
-          let all = spots_long h in
-          map_of_cells (links k h) f.row (spots h) k.own elsewhere (omega arith) (λ i a. (f.each i k.own (omega arith)).is h gives);
+          let same : f.held ≡ _ =
+          each_sender (links k h) f.held h.held k.own d (omega (arith, f.wide)) (λ j l.
+          let here = f.each j k.own (omega (arith, f.wide)) in
+          let link : get_or f.held j k.own ≡ link_of k c.args.x.now j = search rules in
+          link ∙ ap (λ (o : Option g.row.K-Value.Denot). unwrap_or o k.unknown) (loaded_link gives.held j d (omega arith)) ∙ sym (links_held h k gives.orderly j d l)) in
+          λ i. (c.UNKNOWN.ensures ∙ g.met.K.Kind.unknown_is) i ∷ (c.OWN.ensures ∙ g.met.K.Kind.own_is ∙ sym (links_own h k)) i ∷ same i;
     }

@@ -1,34 +1,35 @@
-use Rattle.std.proofs.Common.{◌≡◌, refl, ◌∙◌, arith}
-use Rattle.rules.specs.Rules.{elsewhere, received}
-use Rattle.hearing.specs.Hearing.{spots}
-use Rattle.hearing.proofs.Sounding.{spots_long}
-use Rattle.hearing.proofs.Filling.{none_filled, more_filled, filled_long, all_filled, map_of_cells}
+use Rattle.std.proofs.Common.{◌≡◌, ℕ, ◌∷◌, [], get_or, unwrap_or, rules, sym, ap, ◌∙◌, arith}
+use Rattle.record.specs.Trees.{says}
+use Rattle.rules.specs.Rules.{Sender, received, at}
+use Rattle.cursor.specs.Cursors.{said_value}
+use Rattle.hearing.specs.Cells.{HeardAt}
+use Rattle.hearing.proofs.Laying.{each_sender}
+use Rattle.hearing.proofs.Sounding.{or_else_said, received_own}
 use Rattle.hearing.proofs.rows.receive.Goals as goal
-
-pub loop-i-init : goal.loop-i-init
-loop-i-init g c = none_filled _ _
-
-pub bounds-rows-base : goal.bounds-rows-base
-bounds-rows-base g c =
-    let long = filled_long c.args.rows.now c.loop-i.rows c.args.base c.loop-i.i c.loop-i.invariant (omega arith) in
-    omega arith
-
-pub loop-i-preserved : goal.loop-i-preserved
-loop-i-preserved g c =
-    more_filled c.args.rows.now c.loop-i.rows _ c.args.base c.loop-i.i c.received_cell.result c.loop-i.invariant refl refl refl (omega arith) c.received_cell.ensures
 
 pub returns : goal.returns
 returns g c =
     let k = g.K.Kind.meaning in
-    let f = c.loop-i.invariant in
-    let end : c.loop-i.i ≡ c.args.rows.now.width = omega arith in
-    let long = f.long in
+    let f = c.lay.ensures in
+    let p = c.args.place in
+    let initial = c.args.initial in
     record {
-      row = f.row;
-      laid = all_filled c.args.rows.now c.loop-i.rows c.args.base c.loop-i.i f end;
-      wide = long ∙ end;
+      row = initial ∷ c.unwrap_or-own.result ∷ f.held;
+      laid = f.laid;
+      wide = f.wide;
       means = λ h al low gives flags stands le.
+          let d : Sender g.row.K-Value.Denot = record { number = 0; link = k.own; tree = [] } in
           let many = gives.held.many in
-          let all = spots_long h in
-          map_of_cells (received h al c.args.place c.args.initial) f.row (spots h) k.own elsewhere (omega arith) (λ i a. (f.each i k.own (omega arith)).is h al low gives flags stands le);
+          let own : c.unwrap_or-own.result ≡ received h al p initial (at h.number) =
+          c.unwrap_or-own.ensures
+          ∙ ap (λ o. unwrap_or o initial) (c.value_at.ensures h.last low gives.last stands.own le)
+          ∙ ap (λ (n : ℕ). unwrap_or (said_value (says n p h.last)) initial) (sym gives.number)
+          ∙ or_else_said initial (says h.number p h.last)
+          ∙ sym (received_own h al p initial) in
+          let same : f.held ≡ _ =
+          each_sender (received h al p initial) f.held h.held k.own d (omega (arith, f.wide)) (λ j l.
+          let here = f.each j k.own (omega (arith, f.wide)) in
+          let heard : HeardAt k c.args.x.now c.args.aligned.now p c.args.cursors.now initial j (get_or f.held j k.own) = search rules in
+          heard.is h al low d gives flags stands le l) in
+          λ i. initial ∷ own i ∷ same i;
     }

@@ -1,33 +1,50 @@
-use Rattle.std.proofs.Common.{sym, ◌∙◌, arith, rules, eq-eqb, ne_eqb}
-use Rattle.record.proofs.Rows.{behind_next, behind_one, found_here, found_later}
+use Rattle.std.proofs.Common.{◌≡◌, ◌+◌, ◌-◌, ◌*◌, [], ◌∷◌, length, sym, ap, ◌∙◌, subst, arith, rules, length-append}
+use Rattle.std.proofs.lemmas.List.{take_rest}
+use Rattle.std.specs.Slice.Iter.{chunks_exact_rest}
+use Rattle.record.specs.Records.{bytes_at}
+use Rattle.record.proofs.Rows.{Cut, cut_next, cut_left, cut_done, found_here, found_later, none_found}
 use Rattle.record.proofs.reading.find_entry.Goals as goal
 
-pub pair-requires : goal.pair-requires
-pair-requires c = let h = behind_one _ _ _ _ _ c.loop-test.true c.loop.invariant.0 in omega arith
-
-pub overflow_add-result : goal.overflow_add-result
-overflow_add-result c = let h = behind_one _ _ _ _ _ c.loop-test.true c.loop.invariant.0 in search rules
-
-pub overflow_add-result-then-pair-number : goal.overflow_add-result-then-pair-number
-overflow_add-result-then-pair-number c = let h = behind_one _ _ _ _ _ c.loop-test.true c.loop.invariant.0 in search rules
-
-pub overflow_add-result-then-pair-number-2 : goal.overflow_add-result-then-pair-number-2
-overflow_add-result-then-pair-number-2 c = let h = behind_one _ _ _ _ _ c.loop-test.true c.loop.invariant.0 in search rules
-
-pub slice_bounds-result-end : goal.slice_bounds-result-end
-slice_bounds-result-end c = let h = behind_one _ _ _ _ _ c.loop-test.true c.loop.invariant.0 in search rules
-
 pub returns-then-pair-number : goal.returns-then-pair-number
-returns-then-pair-number c = let h = found_here c.args.width c.args.number c.args.default.now c.args.entries.now c.args.count c.loop.counter c.loop.at c.loop-test.true (eq-eqb _ _ (sym c.pair.ensures.is ∙ c.if-pair-number.true)) in search rules
+returns-then-pair-number g c = λ n fit.
+    let w = g.K.Kind.meaning.width in
+    let bs = c.args.entries.now in
+    let e = c.in-Some.entry.now in
+    let i = length c.loop-entry.yielded in
+    let inv = c.loop-entry.invariant in
+    let steps = c.in-Some.ensures.steps in
+    let long : length e ≡ 2 + w = steps.1.1 ∙ inv.2 in
+    let next = cut_next w bs i _ e _ inv.3 steps.1.0 long in
+    let lt = cut_left w bs i _ e _ inv.3 steps.1.0 long n fit in
+    take_rest e 2 ∙ sym (inv.4 n fit ∙ found_here w c.args.number c.args.default.now bs n i e _ lt next (sym c.pair.ensures.is ∙ c.if-pair-number.true))
 
-pub overflow_add-at : goal.overflow_add-at
-overflow_add-at c = let h = behind_one _ _ _ _ _ c.loop-test.true c.loop.invariant.0 in search rules
+pub loop-entry-preserved : goal.loop-entry-preserved
+loop-entry-preserved g c =
+    let w = g.K.Kind.meaning.width in
+    let bs = c.args.entries.now in
+    let e = c.in-Some.entry.now in
+    let i = length c.loop-entry.yielded in
+    let inv = c.loop-entry.invariant in
+    let steps = c.in-Some.ensures.steps in
+    let long : length e ≡ 2 + w = steps.1.1 ∙ inv.2 in
+    let next = cut_next w bs i _ e _ inv.3 steps.1.0 long in
+    let count = sym (length-append c.loop-entry.yielded (c.in-Some.entry ∷ [])) in (
+      search rules,
+      tt,
+      steps.0 ∙ inv.2,
+      subst (λ z. Cut w bs z (chunks_exact_rest c.next.new.self)) count next.cut,
+      λ n fit.
+          let lt = cut_left w bs i _ e _ inv.3 steps.1.0 long n fit in
+          inv.4 n fit
+          ∙ found_later w c.args.number c.args.default.now bs n i e _ lt next (λ h. c.if-pair-number.false (c.pair.ensures.is ∙ h))
+          ∙ ap (λ z. bytes_at w c.args.number c.args.default.now bs (n - z) (z * (2 + w))) count,
+    )
 
-pub overflow_add-at-in-loop : goal.overflow_add-at-in-loop
-overflow_add-at-in-loop c = let h = behind_one _ _ _ _ _ c.loop-test.true c.loop.invariant.0 in search rules
-
-pub loop-preserved : goal.loop-preserved
-loop-preserved c =
-    let b = behind_next c.args.width c.args.count c.loop.counter c.loop.at c.loop-test.true in
-    let f = found_later c.args.width c.args.number c.args.default.now c.args.entries.now c.args.count c.loop.counter c.loop.at c.loop-test.true (ne_eqb _ _ (λ e. c.if-pair-number.false (c.pair.ensures.is ∙ e))) in
-    (omega (arith, c.loop.invariant.0), c.loop.invariant.1 ∙ f)
+pub returns : goal.returns
+returns g c = λ n fit.
+    let w = g.K.Kind.meaning.width in
+    let i = length c.loop-entry.yielded in
+    let inv = c.loop-entry.invariant in
+    let steps = c.in-None.ensures.steps in
+    let left = cut_done w c.args.entries.now i _ inv.3 n fit (omega (arith, steps.1.0, inv.2)) in
+    sym (inv.4 n fit ∙ none_found w c.args.number c.args.default.now c.args.entries.now n i _ left)
