@@ -10,7 +10,7 @@ use Rattle.program.specs.Measures.{places, places_all, weight, weight_all, recor
 use Rattle.record.specs.declared.output.Output.{Output}
 use Rattle.record.specs.Trees.{Rec, choice}
 use Rattle.record.specs.Writing.{written_record, written_records}
-use Rattle.record.proofs.Grows.{grown_none, grown_after}
+use Rattle.record.proofs.Grows.{grown_none, puts_after}
 use Rattle.record.proofs.Written.{records_both}
 use Rattle.row_stack.specs.declared.row_stack.RowStack.{RowStack}
 use Rattle.row_stack.specs.Rows.{row, Laid, applied, chosen, gathered, sender_cells, own_cell}
@@ -71,7 +71,7 @@ module _ {V : Type 0} (k : Meaning V) (lawful : Lawful k) (x : Inputs) (flags : 
     place_is = omega arith;
     kept = kept_same m.rows base;
     bytes = [];
-    wrote = grown_none m.output.bytes.now m.output.len;
+    wrote = record { lender = refl; grown = grown_none m.output.bytes.now m.output.len };
     light = omega arith;
     means = λ g env al gi fr fl st. record { rows = tt; records_are = refl; stands = st };
   }
@@ -87,7 +87,7 @@ module _ {V : Type 0} (k : Meaning V) (lawful : Lawful k) (x : Inputs) (flags : 
     place_is = let p = a.place_is in let q = b.place_is in omega arith;
     kept = kept_then a.kept b.kept (omega arith);
     bytes = a.bytes ++ b.bytes;
-    wrote = grown_after a.wrote b.wrote;
+    wrote = puts_after a.wrote b.wrote;
     light = let l = length-append a.bytes b.bytes in let p = a.light in let q = b.light in omega arith;
     means = λ g env al gi fr fl st.
         let A = a.means g env al gi fr fl st in
@@ -114,7 +114,7 @@ module _ {V : Type 0} (k : Meaning V) (lawful : Lawful k) (x : Inputs) (flags : 
     place_is = omega arith;
     kept = laid_kept laid room wide;
     bytes = [];
-    wrote = grown_none m.output.bytes.now m.output.len;
+    wrote = record { lender = refl; grown = grown_none m.output.bytes.now m.output.len };
     light = omega arith;
     means = λ g env al gi fr fl st. record {
       rows = laid_row laid room wide ∙ value g env al gi fr;
@@ -238,7 +238,7 @@ module _ {V : Type 0} (k : Meaning V) (lawful : Lawful k) (x : Inputs) (flags : 
         place_is = let p = a.place_is in let q = b.place_is in omega arith;
         kept = kept_then (kept_then a.kept b.kept (omega arith)) (laid_kept laid (omega arith) wide) (omega arith);
         bytes = a.bytes ++ b.bytes;
-        wrote = grown_after a.wrote b.wrote;
+        wrote = puts_after a.wrote b.wrote;
         light = let j = length-append a.bytes b.bytes in let p = a.light in let q = b.light in omega arith;
         means = λ g env al gi fr fl st.
             let A = a.means g env al gi fr fl st in
@@ -280,7 +280,7 @@ module _ {V : Type 0} (k : Meaning V) (lawful : Lawful k) (x : Inputs) (flags : 
         place_is = let p = a.place_is in let q = b.place_is in omega arith;
         kept = kept_then (kept_then a.kept b.kept up) (laid_kept laid (omega arith) wide) (omega arith);
         bytes = a.bytes ++ b.bytes;
-        wrote = grown_after a.wrote b.wrote;
+        wrote = puts_after a.wrote b.wrote;
         light = let j = length-append a.bytes b.bytes in let p = a.light in let q = b.light in omega arith;
         means = λ g env al gi fr fl st.
             let A = a.means g env al gi fr fl st in
@@ -321,7 +321,7 @@ module _ {V : Type 0} (k : Meaning V) (lawful : Lawful k) (x : Inputs) (flags : 
           place_is = omega arith;
           kept = kept_then a.kept b.kept (omega arith);
           bytes = a.bytes ++ (written_record k (choice n.place true) ++ b.bytes);
-          wrote = grown_after a.wrote (grown_after parted.wrote b.wrote);
+          wrote = puts_after a.wrote (puts_after parted.wrote b.wrote);
           light =
               let j = length-append a.bytes (written_record k (choice n.place true) ++ b.bytes) in
               let i = length-append (written_record k (choice n.place true)) b.bytes in
@@ -361,7 +361,7 @@ module _ {V : Type 0} (k : Meaning V) (lawful : Lawful k) (x : Inputs) (flags : 
           place_is = omega arith;
           kept = kept_then a.kept b.kept (omega arith);
           bytes = a.bytes ++ (written_record k (choice n.place false) ++ b.bytes);
-          wrote = grown_after a.wrote (grown_after parted.wrote b.wrote);
+          wrote = puts_after a.wrote (puts_after parted.wrote b.wrote);
           light =
               let j = length-append a.bytes (written_record k (choice n.place false) ++ b.bytes) in
               let i = length-append (written_record k (choice n.place false)) b.bytes in
@@ -429,7 +429,7 @@ module _ {V : Type 0} (k : Meaning V) (lawful : Lawful k) (x : Inputs) (flags : 
           place_is = omega arith;
           kept = kept_then (kept_then kept_in b.kept (omega arith)) (laid_kept handed.laid (omega arith) wide_back) (omega arith);
           bytes = a.bytes ++ (b.bytes ++ handed.bytes);
-          wrote = grown_after a.wrote (grown_after b.wrote handed.wrote);
+          wrote = puts_after a.wrote (puts_after b.wrote handed.wrote);
           light =
               let i = length-append a.bytes (b.bytes ++ handed.bytes) in
               let j = length-append b.bytes handed.bytes in

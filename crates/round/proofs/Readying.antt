@@ -180,8 +180,8 @@ module _ {V : Type 0} (k : Meaning V) (x : Inputs) where
       let nar = narrow_row m.rows wide_is in
       let pl = a.place_is in
       let lt = a.light in
-      let ti = a.wrote.top_is in
-      let ro = a.wrote.room in
+      let ti = a.wrote.grown.top_is in
+      let ro = a.wrote.grown.room in
       let en = a.end_is in
       let near = near_in x.program.now d from q.near in
       let es = listed (rd d) (c - 1) next in
@@ -281,7 +281,7 @@ module _ {V : Type 0} (k : Meaning V) (x : Inputs) where
 
   pub left : {flags : List Bool} {f : Frame} {base : ℕ} {m n : Machine V} {end behind many heavy : ℕ} {Rows : Given V → List (Field V) → (ℕ → Bool) → Type 0} {records : Given V → List (Field V) → (ℕ → Bool) → List (Rec V)}
       → Ran k x flags f base m n end behind many heavy Rows records → Left m n many heavy
-  left a = let t = a.wrote.top_is in let l = a.light in record { place_is = a.place_is; width = a.kept.width; long = a.kept.long; out = omega arith; out_long = a.wrote.room }
+  left a = let t = a.wrote.grown.top_is in let l = a.light in record { place_is = a.place_is; width = a.kept.width; long = a.kept.long; out = omega arith; out_long = a.wrote.grown.room }
 
   -- LET: the second part
   pub second_ready : (flags : List Bool) (f f' : Frame) (base top d from next here : ℕ) (m n : Machine V) → ReadyOne k x flags f base d from m → Some Let ≡ expression_at (shown x.program.now).block from
@@ -559,7 +559,7 @@ module _ {V : Type 0} (k : Meaning V) (x : Inputs) where
       let pf = fk.places_few in
       let e1 = ap (λ (z : ℕ). depth (rd (d - 1) z).0) en in
       let e3 = ap (λ (z : ℕ). weight k.width (rd (d - 1) z).0) en in
-      branch_ready flags still f base d from next next here m n (machine n.rows out c' here) r e a p.long refl p.wrote.top_is p.wrote.room fk.near (omega arith) (omega arith) (omega arith)
+      branch_ready flags still f base d from next next here m n (machine n.rows out c' here) r e a p.long refl p.wrote.grown.top_is p.wrote.grown.room fk.near (omega arith) (omega arith) (omega arith)
 
   pub no_ready : (flags still : List Bool) (f : Frame) (base d from next second inside here : ℕ) (m n : Machine V) (out : Output) (c' : Cursors) (first : Bool) → ReadyOne k x flags f base d from m → Some If ≡ expression_at (shown x.program.now).block from
       → Worked k x flags f base m n next (rd (d - 1) (from + 1)) → Parted k x flags still n.place first n.output out n.cursors c'
@@ -574,4 +574,4 @@ module _ {V : Type 0} (k : Meaning V) (x : Inputs) where
       let e1 = ap (λ (z : ℕ). depth (rd (d - 1) z).0) sc in
       let e2 = ap (λ (z : ℕ). places (rd (d - 1) z).0) seconds in
       let e3 = ap (λ (z : ℕ). weight k.width (rd (d - 1) z).0) sc in
-      branch_ready flags still f base d from next second here m n (machine n.rows out c' here) r e a p.long refl p.wrote.top_is p.wrote.room (omega arith) (omega arith) (omega arith) (omega arith)
+      branch_ready flags still f base d from next second here m n (machine n.rows out c' here) r e a p.long refl p.wrote.grown.top_is p.wrote.grown.room (omega arith) (omega arith) (omega arith) (omega arith)

@@ -90,8 +90,8 @@ module _ {V : Type 0} (k : Meaning V) (x : Inputs) (fits : suits k (shown x.prog
   ended rows out c f flags n end wide cells len room a =
       let l = light in
       let la = a.light in
-      let t = a.wrote.top_is in
-      let r = a.wrote.room in
+      let t = a.wrote.grown.top_is in
+      let r = a.wrote.grown.room in
       let kl = a.kept.long in
       let kw = a.kept.width in
       record { long = omega arith; short = omega arith; room = omega arith; cells = omega arith; wide = omega arith; same = r }
@@ -130,12 +130,12 @@ module _ {V : Type 0} (k : Meaning V) (x : Inputs) (fits : suits k (shown x.prog
             let value : v ≡ result k g run = reads k.own ∙ own_at n.rows 0 g (work k g (unfolded_in p d from).0 [] (λ z. true) 0).value k.own e5 A.rows ∙ ap (λ (y : Expr). result k g y) is in
             let records : a.bytes ≡ written_records k (round k g run).records = A.records_are ∙ ap (λ (y : Expr). written_records k (round k g y).records) is in
             let lay : part n.output.bytes.now header_length (n.output.len - header_length) ≡ a.bytes =
-            ap (λ (z : ℕ). part n.output.bytes.now z (n.output.len - z)) (sym len) ∙ grown_part a.wrote (omega arith) in
+            ap (λ (z : ℕ). part n.output.bytes.now z (n.output.len - z)) (sym len) ∙ grown_part a.wrote.grown (omega arith) in
             let sender : x.node ≡ g.number = sym gi.number in
             let tree_is : take final.len final.bytes.now ≡ written_tree k (shown p).header.number (tree k g run) =
             front (round k g run).records (lay ∙ records) ∙ (λ i. written_tree k (numbers i) (record { sender = sender i; records = (round k g run).records })) in
             let o = tree_out out.bytes.now n.output.bytes.now final.bytes.now (written_tree k (shown p).header.number (tree k g run)) (written_header number x.node (n.output.len - header_length)) final.len
-            (omega arith) e4 refl (omega arith) tree_is bytes (subst (λ (z : ℕ). drop z n.output.bytes.now ≡ drop z out.bytes.now) (sym same) a.wrote.tail) in
+            (omega arith) e4 refl (omega arith) tree_is bytes (subst (λ (z : ℕ). drop z n.output.bytes.now ≡ drop z out.bytes.now) (sym same) a.wrote.grown.tail) in
             record { value = value; length_is = o.0; output = o.1 };
       }
 

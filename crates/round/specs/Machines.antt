@@ -7,7 +7,7 @@ use Rattle.program.specs.Programs.{shown}
 use Rattle.unfolding.specs.Unfolding.{listed}
 use Rattle.unfolding.specs.Walks.{unfolded_in}
 use Rattle.record.specs.declared.output.Output.{Output}
-use Rattle.record.specs.Growth.{Grown}
+use Rattle.record.specs.Growth.{Puts}
 use Rattle.record.specs.Trees.{Rec}
 use Rattle.record.specs.Writing.{written_records}
 use Rattle.row_stack.specs.declared.row_stack.RowStack.{RowStack}
@@ -17,6 +17,7 @@ use Rattle.hearing.specs.declared.inputs.Inputs.{Inputs}
 use Rattle.hearing.specs.declared.cursors.Cursors.{Cursors}
 use Rattle.hearing.specs.Hearing.{Gives, Standing, Flags}
 use Rattle.steps.specs.declared.frame.Frame.{Frame}
+use Rattle.round.specs.declared.worker.Worker.{Worker}
 use Rattle.steps.specs.Frames.{row_of, Below, Framed}
 
 -- what a round works with: rows, the output, where it stands in the trees, and the next place
@@ -28,6 +29,10 @@ pub record Machine (V : Type 0) : Type 0 where
 
 abbrev pub machine : {V : Type 0} → RowStack V → Output → Cursors → ℕ → Machine V
 machine r o c p = record { rows = r; output = o; cursors = c; place = p }
+
+-- the machine of a worker and an output
+abbrev pub seen : {V : Type 0} → Worker V → Output → Machine V
+seen w o = machine w.rows o w.cursors w.place
 
 -- the stack s has become t, and the cells below `base` are as they were
 pub record Kept {V : Type 0} (s t : RowStack V) (base : ℕ) : Type 0 where
@@ -69,7 +74,7 @@ pub record Ran {V : Type 0} (k : Meaning V) (x : Inputs) (flags : List Bool) (f 
   pub place_is : n.place ≡ m.place + many
   pub kept : Kept m.rows n.rows base
   pub bytes : List ℕ
-  pub wrote : Grown m.output.bytes.now m.output.len n.output.bytes.now n.output.len bytes
+  pub wrote : Puts m.output n.output bytes
   pub light : length bytes ≤ heavy
   pub means : (g : Given V) (env : List (Field V)) (al : ℕ → Bool) → Gives k x g → Framed k g f m.rows env → Flags g al flags → Standing k x g m.place m.cursors
       → Meant k x g n bytes (Rows g env al) (records g env al)

@@ -4,3 +4,4 @@
 mod task;
 mod work;
 pub mod work_out;
+mod worker;

@@ -3,383 +3,193 @@ ghost use Rattle.program.specs.Programs.{shown};
 ghost use Rattle.unfolding.specs.Unfolding.{listed, expression_at};
 ghost use Rattle.unfolding.specs.Walks.{unfolded_in};
 ghost use Rattle.steps.specs.Frames.{Arguments, row_after};
-ghost use Rattle.round.specs.Machines.{machine, ReadyOne, ReadyAll, Worked, WorkedAll};
+ghost use Rattle.round.specs.Machines.{seen, ReadyOne, ReadyAll, Worked, WorkedAll};
 ghost use Rattle.steps.specs.Steps.{Computed, Sends, outcome_rows};
 
-use crate::task::Task;
-use hearing::cursors::Cursors;
-use hearing::inputs::Inputs;
+use crate::task::{Scene, Task};
+use crate::worker::Worker;
 use hearing::rows::{link_row, receive};
 use kind::kind::Kind;
 use program::expression::Expression;
 use record::output::Output;
-use row_stack::row_stack::RowStack;
 use steps::finish::finish;
 use steps::frame::Frame;
-use steps::hand_over::hand_over;
+use steps::hand_over::{Found, hand_over};
 use steps::leaf::leaf;
 use steps::part_ways::part_ways;
 use unfolding::skip::{skip, skip_parts};
 use unfolding::step::{count_parts, expression_at, parts_start};
 
-// Works the expression at `at`: lays its row at `base`, puts its records, and answers where it ends and the next place.
-#[cycle(bind_branch_call_compute_exchange_work_work_parts)]
-pub(crate) fn work<K: Kind>(
-    x: &Inputs<'_>,
-    task: Task,
-    frame: &Frame,
-    aligned: &[bool],
-    rows: &mut RowStack<'_, K::Value>,
-    output: &mut Output<'_>,
-    cursors: &mut Cursors,
-) -> (usize, usize)
-    requires ready { ReadyOne K.Kind.meaning x.now aligned.now frame.now task.base task.depth task.at (machine rows.old output.old cursors.old task.place) }
-    ensures named { output.new.bytes.ghost_name ≡ output.old.bytes.ghost_name }
-    ensures worked { Worked K.Kind.meaning x.now aligned.now frame.now task.base (machine rows.old output.old cursors.old task.place) (machine rows.new output.new cursors.new result.1) result.0 (unfolded_in x.now.program.now task.depth task.at) }
-{
-    let program = x.program;
-    let Some(e) = expression_at(program, task.at) else {
-        link_row::<K>(x, rows, task.base);
-        return (task.at, task.place);
-    };
-    match e {
-        Expression::Let => bind::<K>(x, task, frame, aligned, rows, output, cursors),
-        Expression::Exchange | Expression::Share => exchange::<K>(
-            x, e, task, frame, aligned, rows, output, cursors,
-        ),
-        Expression::If => branch::<K>(x, task, frame, aligned, rows, output, cursors),
-        Expression::Call(n) => call::<K>(x, n, task, frame, aligned, rows, output, cursors),
-        Expression::Operator(_) | Expression::Fold(_) | Expression::Own | Expression::Choose =>
-            compute::<K>(x, e, task, frame, aligned, rows, output, cursors),
-        Expression::Literal(_)
-        | Expression::Variable(_)
-        | Expression::Sensor(_)
-        | Expression::Link => {
-            leaf::<K>(x, e, frame, rows, task.base);
-            (parts_start(e, task.at, program.width()), task.place)
+impl<'m, V: Copy> Worker<'m, V> {
+    // Works the expression at `at`: lays its row at `base`, puts its records, passes its places, and answers where it ends.
+    #[cycle(working)]
+    pub(crate) fn work<K: Kind<Value = V>>(&mut self, scene: &Scene<'_, '_>, output: &mut Output<'_>, task: Task) -> usize
+        requires ready { ReadyOne K.Kind.meaning scene.now.inputs.now scene.now.aligned.now scene.now.frame.now task.base task.depth task.at (seen self.old output.old) }
+        ensures { Worked K.Kind.meaning scene.now.inputs.now scene.now.aligned.now scene.now.frame.now task.base (seen self.old output.old) (seen self.new output.new) result (unfolded_in scene.now.inputs.now.program.now task.depth task.at) }
+    {
+        let program = scene.inputs.program;
+        let Some(e) = expression_at(program, task.at) else {
+            link_row::<K>(scene.inputs, &mut self.rows, task.base);
+            return task.at;
+        };
+        match e {
+            Expression::Let => self.bind::<K>(scene, output, task),
+            Expression::Exchange | Expression::Share => self.exchange::<K>(scene, output, task, e),
+            Expression::If => self.branch::<K>(scene, output, task),
+            Expression::Call(n) => self.call::<K>(scene, output, task, n),
+            Expression::Operator(_) | Expression::Fold(_) | Expression::Own | Expression::Choose =>
+                self.compute::<K>(scene, output, task, e),
+            Expression::Literal(_)
+            | Expression::Variable(_)
+            | Expression::Sensor(_)
+            | Expression::Link => {
+                leaf::<K>(scene.inputs, e, scene.frame, &mut self.rows, task.base);
+                parts_start(e, task.at, program.width())
+            }
+        }
+    }
+
+    // The same of `count` expressions in a row: their rows lie one behind the other.
+    #[cycle(working)]
+    fn work_parts<K: Kind<Value = V>>(
+        &mut self,
+        scene: &Scene<'_, '_>,
+        output: &mut Output<'_>,
+        task: Task,
+        count: usize,
+    ) -> usize
+        requires ready { ReadyAll K.Kind.meaning scene.now.inputs.now scene.now.aligned.now scene.now.frame.now task.base task.depth count task.at (seen self.old output.old) }
+        requires few { count ≤ 8 }
+        ensures { WorkedAll K.Kind.meaning scene.now.inputs.now scene.now.aligned.now scene.now.frame.now task.base (seen self.old output.old) (seen self.new output.new) result (listed (unfolded_in scene.now.inputs.now.program.now task.depth) count task.at) }
+    {
+        if count == 0 {
+            return task.at;
+        }
+        let next = self.work::<K>(scene, output, task);
+        let base = task.base + self.rows.width;
+        self.work_parts::<K>(scene, output, Task { at: next, base, ..task }, count - 1)
+    }
+
+    // An expression whose value is made of the rows of its parts.
+    #[cycle(working)]
+    fn compute<K: Kind<Value = V>>(&mut self, scene: &Scene<'_, '_>, output: &mut Output<'_>, task: Task, e: Expression) -> usize
+        requires ready { ReadyOne K.Kind.meaning scene.now.inputs.now scene.now.aligned.now scene.now.frame.now task.base task.depth task.at (seen self.old output.old) }
+        requires step { Some e ≡ expression_at (shown scene.now.inputs.now.program.now).block task.at }
+        requires parts { Computed e }
+        ensures { Worked K.Kind.meaning scene.now.inputs.now scene.now.aligned.now scene.now.frame.now task.base (seen self.old output.old) (seen self.new output.new) result (unfolded_in scene.now.inputs.now.program.now task.depth task.at) }
+    {
+        let program = scene.inputs.program;
+        let count = count_parts(program, e);
+        let at = parts_start(e, task.at, program.width());
+        let depth = task.depth - 1;
+        let end = self.work_parts::<K>(scene, output, Task { at, depth, ..task }, count);
+        finish::<K>(e, scene.aligned, &mut self.rows, task.base);
+        end
+    }
+
+    // A let: the second part sees the row of the first.
+    #[cycle(working)]
+    fn bind<K: Kind<Value = V>>(&mut self, scene: &Scene<'_, '_>, output: &mut Output<'_>, task: Task) -> usize
+        requires ready { ReadyOne K.Kind.meaning scene.now.inputs.now scene.now.aligned.now scene.now.frame.now task.base task.depth task.at (seen self.old output.old) }
+        requires step { Some Expression.Let ≡ expression_at (shown scene.now.inputs.now.program.now).block task.at }
+        ensures { Worked K.Kind.meaning scene.now.inputs.now scene.now.aligned.now scene.now.frame.now task.base (seen self.old output.old) (seen self.new output.new) result (unfolded_in scene.now.inputs.now.program.now task.depth task.at) }
+    {
+        let part = Task { depth: task.depth - 1, ..task };
+        let next = self.work::<K>(scene, output, Task { at: task.at + 1, ..part });
+        let frame = scene.frame.with(task.base);
+        let top = task.base + self.rows.width;
+        let inner = Scene { frame: &frame, ..*scene };
+        let end = self.work::<K>(&inner, output, Task { at: next, base: top, ..part });
+        self.rows.copy(top, task.base);
+        end
+    }
+
+    // A call: the arguments' rows are the variables of the called body.
+    #[cycle(working)]
+    fn call<K: Kind<Value = V>>(&mut self, scene: &Scene<'_, '_>, output: &mut Output<'_>, task: Task, n: u8) -> usize
+        requires ready { ReadyOne K.Kind.meaning scene.now.inputs.now scene.now.aligned.now scene.now.frame.now task.base task.depth task.at (seen self.old output.old) }
+        requires step { Some (Expression.Call n) ≡ expression_at (shown scene.now.inputs.now.program.now).block task.at }
+        ensures { Worked K.Kind.meaning scene.now.inputs.now scene.now.aligned.now scene.now.frame.now task.base (seen self.old output.old) (seen self.new output.new) result (unfolded_in scene.now.inputs.now.program.now task.depth task.at) }
+    {
+        let called = scene.inputs.program.function(n);
+        let count = called.parameters as usize;
+        let part = Task { depth: task.depth - 1, ..task };
+        let end = self.work_parts::<K>(scene, output, Task { at: task.at + 2, ..part }, count);
+        let (frame, top) = arguments(task.base, self.rows.width, count);
+        let inner = Scene { frame: &frame, ..*scene };
+        let _ = self.work::<K>(&inner, output, Task { at: called.start, base: top, ..part });
+        self.rows.copy(top, task.base);
+        end
+    }
+
+    // An exchange or share: its place is behind its parts, and the parts behind the initial one see what is received.
+    #[cycle(working)]
+    fn exchange<K: Kind<Value = V>>(&mut self, scene: &Scene<'_, '_>, output: &mut Output<'_>, task: Task, e: Expression) -> usize
+        requires ready { ReadyOne K.Kind.meaning scene.now.inputs.now scene.now.aligned.now scene.now.frame.now task.base task.depth task.at (seen self.old output.old) }
+        requires step { Some e ≡ expression_at (shown scene.now.inputs.now.program.now).block task.at }
+        requires sends { Sends e }
+        ensures { Worked K.Kind.meaning scene.now.inputs.now scene.now.aligned.now scene.now.frame.now task.base (seen self.old output.old) (seen self.new output.new) result (unfolded_in scene.now.inputs.now.program.now task.depth task.at) }
+    {
+        let x = scene.inputs;
+        let part = Task { depth: task.depth - 1, ..task };
+        let next = self.work::<K>(scene, output, Task { at: task.at + 1, ..part });
+        let initial = self.rows.cell(task.base + 1);
+        let count = e.part_count(0) - 1;
+        let (_, inside) = skip_parts(x.program, count, next, part.depth);
+        let here = self.place + inside;
+        let (cursors, aligned) = (self.cursors, scene.aligned);
+        receive::<K>(x, &cursors, here, aligned, initial, &mut self.rows, task.base);
+        let frame = scene.frame.with(task.base);
+        let top = task.base + self.rows.width;
+        let inner = Scene { frame: &frame, ..*scene };
+        let end = self.work_parts::<K>(&inner, output, Task { at: next, base: top, ..part }, count);
+        let found = rows_found(e, top, self.rows.width);
+        hand_over::<K>(x, here, task.base, found, &mut self.rows, output, &mut self.cursors);
+        self.place = here + 1;
+        end
+    }
+
+    // An if: only the chosen branch is worked, with the senders that chose it too. The places of the other are passed over.
+    #[cycle(working)]
+    fn branch<K: Kind<Value = V>>(&mut self, scene: &Scene<'_, '_>, output: &mut Output<'_>, task: Task) -> usize
+        requires ready { ReadyOne K.Kind.meaning scene.now.inputs.now scene.now.aligned.now scene.now.frame.now task.base task.depth task.at (seen self.old output.old) }
+        requires step { Some Expression.If ≡ expression_at (shown scene.now.inputs.now.program.now).block task.at }
+        ensures { Worked K.Kind.meaning scene.now.inputs.now scene.now.aligned.now scene.now.frame.now task.base (seen self.old output.old) (seen self.new output.new) result (unfolded_in scene.now.inputs.now.program.now task.depth task.at) }
+    {
+        let program = scene.inputs.program;
+        let part = Task { depth: task.depth - 1, ..task };
+        let next = self.work::<K>(scene, output, Task { at: task.at + 1, ..part });
+        let first = K::truth(self.rows.cell(task.base + 1));
+        let here = self.place;
+        let still = part_ways::<K>(scene.inputs, here, first, scene.aligned, output, &mut self.cursors);
+        let inner = Scene { aligned: &still, ..*scene };
+        self.place = here + 1;
+        if first {
+            let second = self.work::<K>(&inner, output, Task { at: next, ..part });
+            let (end, inside) = skip(program, second, part.depth);
+            self.place += inside;
+            end
+        } else {
+            let (second, inside) = skip(program, next, part.depth);
+            self.place += inside;
+            self.work::<K>(&inner, output, Task { at: second, ..part })
         }
     }
 }
 
-// The same of `count` expressions in a row: their rows lie one behind the other.
-#[cycle(bind_branch_call_compute_exchange_work_work_parts)]
-fn work_parts<K: Kind>(
-    x: &Inputs<'_>,
-    count: usize,
-    task: Task,
-    frame: &Frame,
-    aligned: &[bool],
-    rows: &mut RowStack<'_, K::Value>,
-    output: &mut Output<'_>,
-    cursors: &mut Cursors,
-) -> (usize, usize)
-    requires ready { ReadyAll K.Kind.meaning x.now aligned.now frame.now task.base task.depth count task.at (machine rows.old output.old cursors.old task.place) }
-    requires few { count ≤ 8 }
-    ensures named { output.new.bytes.ghost_name ≡ output.old.bytes.ghost_name }
-    ensures worked { WorkedAll K.Kind.meaning x.now aligned.now frame.now task.base (machine rows.old output.old cursors.old task.place) (machine rows.new output.new cursors.new result.1) result.0 (listed (unfolded_in x.now.program.now task.depth) count task.at) }
-{
-    if count == 0 {
-        return (task.at, task.place);
-    }
-    let (next, here) = work::<K>(x, task, frame, aligned, rows, output, cursors);
-    let top = task.base + rows.width;
-    work_parts::<K>(
-        x,
-        count - 1,
-        Task {
-            at: next,
-            depth: task.depth,
-            base: top,
-            place: here,
-        },
-        frame,
-        aligned,
-        rows,
-        output,
-        cursors,
-    )
-}
-
-// An expression whose value is made of the rows of its parts.
-#[cycle(bind_branch_call_compute_exchange_work_work_parts)]
-fn compute<K: Kind>(
-    x: &Inputs<'_>,
-    e: Expression,
-    task: Task,
-    frame: &Frame,
-    aligned: &[bool],
-    rows: &mut RowStack<'_, K::Value>,
-    output: &mut Output<'_>,
-    cursors: &mut Cursors,
-) -> (usize, usize)
-    requires ready { ReadyOne K.Kind.meaning x.now aligned.now frame.now task.base task.depth task.at (machine rows.old output.old cursors.old task.place) }
-    requires step { Some e ≡ expression_at (shown x.now.program.now).block task.at }
-    requires parts { Computed e }
-    ensures named { output.new.bytes.ghost_name ≡ output.old.bytes.ghost_name }
-    ensures worked { Worked K.Kind.meaning x.now aligned.now frame.now task.base (machine rows.old output.old cursors.old task.place) (machine rows.new output.new cursors.new result.1) result.0 (unfolded_in x.now.program.now task.depth task.at) }
-{
-    let program = x.program;
-    let count = count_parts(program, e);
-    let start = parts_start(e, task.at, program.width());
-    let (end, after) = work_parts::<K>(
-        x,
-        count,
-        Task {
-            at: start,
-            depth: task.depth - 1,
-            base: task.base,
-            place: task.place,
-        },
-        frame,
-        aligned,
-        rows,
-        output,
-        cursors,
-    );
-    finish::<K>(e, aligned, rows, task.base);
-    (end, after)
-}
-
-// A let: the second part sees the row of the first.
-#[cycle(bind_branch_call_compute_exchange_work_work_parts)]
-fn bind<K: Kind>(
-    x: &Inputs<'_>,
-    task: Task,
-    frame: &Frame,
-    aligned: &[bool],
-    rows: &mut RowStack<'_, K::Value>,
-    output: &mut Output<'_>,
-    cursors: &mut Cursors,
-) -> (usize, usize)
-    requires ready { ReadyOne K.Kind.meaning x.now aligned.now frame.now task.base task.depth task.at (machine rows.old output.old cursors.old task.place) }
-    requires step { Some Expression.Let ≡ expression_at (shown x.now.program.now).block task.at }
-    ensures named { output.new.bytes.ghost_name ≡ output.old.bytes.ghost_name }
-    ensures worked { Worked K.Kind.meaning x.now aligned.now frame.now task.base (machine rows.old output.old cursors.old task.place) (machine rows.new output.new cursors.new result.1) result.0 (unfolded_in x.now.program.now task.depth task.at) }
-{
-    let (next, here) = work::<K>(
-        x,
-        Task {
-            at: task.at + 1,
-            depth: task.depth - 1,
-            base: task.base,
-            place: task.place,
-        },
-        frame,
-        aligned,
-        rows,
-        output,
-        cursors,
-    );
-    let inner = frame.with(task.base);
-    let top = task.base + rows.width;
-    let (end, after) = work::<K>(
-        x,
-        Task {
-            at: next,
-            depth: task.depth - 1,
-            base: top,
-            place: here,
-        },
-        &inner,
-        aligned,
-        rows,
-        output,
-        cursors,
-    );
-    rows.copy(top, task.base);
-    (end, after)
-}
-
-// A call: the arguments' rows are the variables of the called body.
-#[cycle(bind_branch_call_compute_exchange_work_work_parts)]
-fn call<K: Kind>(
-    x: &Inputs<'_>,
-    n: u8,
-    task: Task,
-    frame: &Frame,
-    aligned: &[bool],
-    rows: &mut RowStack<'_, K::Value>,
-    output: &mut Output<'_>,
-    cursors: &mut Cursors,
-) -> (usize, usize)
-    requires ready { ReadyOne K.Kind.meaning x.now aligned.now frame.now task.base task.depth task.at (machine rows.old output.old cursors.old task.place) }
-    requires step { Some (Expression.Call n) ≡ expression_at (shown x.now.program.now).block task.at }
-    ensures named { output.new.bytes.ghost_name ≡ output.old.bytes.ghost_name }
-    ensures worked { Worked K.Kind.meaning x.now aligned.now frame.now task.base (machine rows.old output.old cursors.old task.place) (machine rows.new output.new cursors.new result.1) result.0 (unfolded_in x.now.program.now task.depth task.at) }
-{
-    let called = x.program.function(n);
-    let count = called.parameters as usize;
-    let (end, here) = work_parts::<K>(
-        x,
-        count,
-        Task {
-            at: task.at + 2,
-            depth: task.depth - 1,
-            base: task.base,
-            place: task.place,
-        },
-        frame,
-        aligned,
-        rows,
-        output,
-        cursors,
-    );
-    let (inner, top) = arguments(task.base, rows.width, count);
-    let (_, after) = work::<K>(
-        x,
-        Task {
-            at: called.start,
-            depth: task.depth - 1,
-            base: top,
-            place: here,
-        },
-        &inner,
-        aligned,
-        rows,
-        output,
-        cursors,
-    );
-    rows.copy(top, task.base);
-    (end, after)
-}
-
-// An exchange or share: its place is behind its parts, and the parts behind the initial one see what is received.
-#[cycle(bind_branch_call_compute_exchange_work_work_parts)]
-fn exchange<K: Kind>(
-    x: &Inputs<'_>,
-    e: Expression,
-    task: Task,
-    frame: &Frame,
-    aligned: &[bool],
-    rows: &mut RowStack<'_, K::Value>,
-    output: &mut Output<'_>,
-    cursors: &mut Cursors,
-) -> (usize, usize)
-    requires ready { ReadyOne K.Kind.meaning x.now aligned.now frame.now task.base task.depth task.at (machine rows.old output.old cursors.old task.place) }
-    requires step { Some e ≡ expression_at (shown x.now.program.now).block task.at }
-    requires sends { Sends e }
-    ensures named { output.new.bytes.ghost_name ≡ output.old.bytes.ghost_name }
-    ensures worked { Worked K.Kind.meaning x.now aligned.now frame.now task.base (machine rows.old output.old cursors.old task.place) (machine rows.new output.new cursors.new result.1) result.0 (unfolded_in x.now.program.now task.depth task.at) }
-{
-    let program = x.program;
-    let (next, mid) = work::<K>(
-        x,
-        Task {
-            at: task.at + 1,
-            depth: task.depth - 1,
-            base: task.base,
-            place: task.place,
-        },
-        frame,
-        aligned,
-        rows,
-        output,
-        cursors,
-    );
-    let initial = rows.cell(task.base + 1);
-    let count = e.part_count(0) - 1;
-    let (_, inside) = skip_parts(program, count, next, task.depth - 1);
-    let here = mid + inside;
-    receive::<K>(x, cursors, here, aligned, initial, rows, task.base);
-    let inner = frame.with(task.base);
-    let top = task.base + rows.width;
-    let (end, _) = work_parts::<K>(
-        x,
-        count,
-        Task {
-            at: next,
-            depth: task.depth - 1,
-            base: top,
-            place: mid,
-        },
-        &inner,
-        aligned,
-        rows,
-        output,
-        cursors,
-    );
-    let found = rows_found(e, top, rows.width);
-    hand_over::<K>(x, here, task.base, found, rows, output, cursors);
-    (end, here + 1)
-}
-
-// An if: only the chosen branch is worked, with the senders that chose it too. The places of the other are passed over.
-#[cycle(bind_branch_call_compute_exchange_work_work_parts)]
-fn branch<K: Kind>(
-    x: &Inputs<'_>,
-    task: Task,
-    frame: &Frame,
-    aligned: &[bool],
-    rows: &mut RowStack<'_, K::Value>,
-    output: &mut Output<'_>,
-    cursors: &mut Cursors,
-) -> (usize, usize)
-    requires ready { ReadyOne K.Kind.meaning x.now aligned.now frame.now task.base task.depth task.at (machine rows.old output.old cursors.old task.place) }
-    requires step { Some Expression.If ≡ expression_at (shown x.now.program.now).block task.at }
-    ensures named { output.new.bytes.ghost_name ≡ output.old.bytes.ghost_name }
-    ensures worked { Worked K.Kind.meaning x.now aligned.now frame.now task.base (machine rows.old output.old cursors.old task.place) (machine rows.new output.new cursors.new result.1) result.0 (unfolded_in x.now.program.now task.depth task.at) }
-{
-    let program = x.program;
-    let (next, here) = work::<K>(
-        x,
-        Task {
-            at: task.at + 1,
-            depth: task.depth - 1,
-            base: task.base,
-            place: task.place,
-        },
-        frame,
-        aligned,
-        rows,
-        output,
-        cursors,
-    );
-    let first = K::truth(rows.cell(task.base + 1));
-    let still = part_ways::<K>(x, here, first, aligned, output, cursors);
-    if first {
-        let (second, after) = work::<K>(
-            x,
-            Task {
-                at: next,
-                depth: task.depth - 1,
-                base: task.base,
-                place: here + 1,
-            },
-            frame,
-            &still,
-            rows,
-            output,
-            cursors,
-        );
-        let (end, inside) = skip(program, second, task.depth - 1);
-        (end, after + inside)
-    } else {
-        let (second, inside) = skip(program, next, task.depth - 1);
-        work::<K>(
-            x,
-            Task {
-                at: second,
-                depth: task.depth - 1,
-                base: task.base,
-                place: here + 1 + inside,
-            },
-            frame,
-            &still,
-            rows,
-            output,
-            cursors,
-        )
-    }
-}
-
 // The rows of what is returned and of what is sent.
-fn rows_found(e: Expression, top: usize, width: usize) -> (usize, usize)
+fn rows_found(e: Expression, top: usize, width: usize) -> Found
     requires { top + width < 65536 }
-    ensures { result ≡ outcome_rows e top width }
+    ensures returned { result.returned ≡ (outcome_rows e top width).0 }
+    ensures sent { result.sent ≡ (outcome_rows e top width).1 }
 {
-    match e {
-        Expression::Exchange => (top, top + width),
-        _ => (top, top),
+    let sent = match e {
+        Expression::Exchange => top + width,
+        _ => top,
+    };
+    Found {
+        returned: top,
+        sent,
     }
 }
 

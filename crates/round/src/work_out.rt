@@ -9,8 +9,8 @@ ghost use Rattle.rules.specs.Working.{readings_in, other_node, last_in, working_
 ghost use Rattle.cursor.specs.Cursors.{Readable};
 ghost use Rattle.round.specs.Outcomes.{GivesOut, GivesParts, GivesRound};
 
-use crate::task::Task;
-use crate::work::work;
+use crate::task::{Scene, Task};
+use crate::worker::Worker;
 use hearing::follow::begin;
 use hearing::inputs::Inputs;
 use held::load::load;
@@ -84,35 +84,27 @@ fn run<K: Kind>(x: &Inputs<'_>, values: &mut [K::Value], output: &mut [u8]) -> (
     requires output { most_bytes ≤ length output.old }
     ensures { GivesOut K.Kind.meaning x.now result.0 result.1 output.old output.new }
 {
-    let program = x.program;
-    let mut rows = RowStack {
-        cells: values,
-        width: 2 + x.slots.count,
+    let (at, depth) = run_start(x.program);
+    let scene = Scene {
+        inputs: x,
+        frame: &Frame::empty(),
+        aligned: &[true; 16],
+    };
+    let mut worker = Worker {
+        rows: RowStack {
+            cells: values,
+            width: 2 + x.slots.count,
+        },
+        cursors: begin::<K>(),
+        place: 0,
     };
     let mut out = Output {
         bytes: output,
         len: HEADER_LENGTH,
     };
-    let mut cursors = begin::<K>();
-    let frame = Frame::empty();
-    let (at, depth) = run_start(program);
-    let task = Task {
-        at,
-        depth,
-        base: 0,
-        place: 0,
-    };
-    let _ = work::<K>(
-        x,
-        task,
-        &frame,
-        &[true; 16],
-        &mut rows,
-        &mut out,
-        &mut cursors,
-    );
-    let result = rows.cell(1);
-    put_header::<K>(&mut out, program.number(), x.node);
+    let _ = worker.work::<K>(&scene, &mut out, Task { at, depth, base: 0 });
+    let result = worker.rows.cell(1);
+    put_header::<K>(&mut out, x.program.number(), x.node);
     (result, out.len)
 }
 

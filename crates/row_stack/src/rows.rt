@@ -1,15 +1,67 @@
-ghost use Rattle.std.specs.Prelude.{◌≡◌, ◌+◌, ◌<◌, ◌≤◌, length, replicate, slice_index_or};
+ghost use Rattle.std.specs.Prelude.{◌≡◌, ◌+◌, ◌<◌, ◌≤◌, length, replicate, slice_index_or, slice_range, take, drop};
+ghost use Rattle.std.proofs.Math.Seq.{paste};
+ghost use Rattle.std.specs.List.{filter, fold, zip};
 ghost use Rattle.row_stack.specs.Rows.{row, Laid, applied, chosen, gathered, sender_cells, own_cell};
 
 use crate::row_stack::RowStack;
 use kind::kind::Kind;
 
-// An element, read through a plain slice.
-fn element<V: Copy>(cells: &[V], i: usize) -> V
-    requires { i < length cells.now }
-    ensures { (d : V) → result ≡ slice_index_or cells.now i d }
+// Makes all cells one value.
+fn fill_cells<V: Copy>(cells: &mut [V], v: V)
+    ensures { cells.new ≡ replicate (length cells.old) v }
 {
-    cells[i]
+    for cell in cells.iter_mut() {
+        *cell = v;
+    }
+}
+
+// Makes of each cell what an operator makes of it and of its fellow.
+fn combine_cells<K: Kind>(op: u8, cells: &mut [K::Value], others: &[K::Value])
+    requires { length others.now ≡ length cells.old }
+    ensures { cells.new ≡ applied (K.Kind.meaning.apply op) cells.old others.now }
+{
+    for (i, cell) in cells.iter_mut().enumerate() {
+        *cell = K::apply(op, *cell, others[i]);
+    }
+}
+
+// The same of cells that lie in one slice.
+fn combine_rows<K: Kind>(op: u8, cells: &mut [K::Value], at: usize, second: usize, width: usize)
+    requires behind { at + width ≤ second }
+    requires there { second + width ≤ length cells.old }
+    ensures { cells.new ≡ paste cells.old at (applied (K.Kind.meaning.apply op) (take width (drop at cells.old)) (take width (drop second cells.old))) width }
+{
+    let (front, back) = cells.split_at_mut(second);
+    combine_cells::<K>(op, &mut front[at..at + width], &back[..width]);
+}
+
+// Makes of each cell one of its two fellows, by its truth.
+fn choose_cells<K: Kind>(cells: &mut [K::Value], yes: &[K::Value], no: &[K::Value])
+    requires yes { length yes.now ≡ length cells.old }
+    requires no { length no.now ≡ length cells.old }
+    ensures { cells.new ≡ chosen K.Kind.meaning.truth cells.old yes.now no.now }
+{
+    for (i, cell) in cells.iter_mut().enumerate() {
+        *cell = if K::truth(*cell) { yes[i] } else { no[i] };
+    }
+}
+
+// The same of cells that lie in one slice.
+fn choose_rows<K: Kind>(cells: &mut [K::Value], at: usize, yes: usize, no: usize, width: usize)
+    requires first { at + width ≤ yes }
+    requires second { at + width ≤ no }
+    requires yes { yes + width ≤ length cells.old }
+    requires no { no + width ≤ length cells.old }
+    ensures { cells.new ≡ paste cells.old at (chosen K.Kind.meaning.truth (take width (drop at cells.old)) (take width (drop yes cells.old)) (take width (drop no cells.old))) width }
+{
+    let end = at + width;
+    let (front, back) = cells.split_at_mut(end);
+    let (yes, no) = (yes - end, no - end);
+    choose_cells::<K>(
+        &mut front[at..end],
+        &back[yes..yes + width],
+        &back[no..no + width],
+    );
 }
 
 impl<'a, V: Copy> RowStack<'a, V> {
@@ -18,7 +70,15 @@ impl<'a, V: Copy> RowStack<'a, V> {
         requires { i < length self.now.cells.now }
         ensures { (d : V) → result ≡ slice_index_or self.now.cells.now i d }
     {
-        element(self.cells, i)
+        self.cells[i]
+    }
+
+    /// The cells of the row at `at`.
+    pub fn row(&self, at: usize) -> &[V]
+        requires { at + self.now.width ≤ length self.now.cells.now }
+        ensures { result.now ≡ row self.now at }
+    {
+        &self.cells[at..at + self.width]
     }
 
     /// Lays a row that has one value in all cells.
@@ -26,9 +86,8 @@ impl<'a, V: Copy> RowStack<'a, V> {
         requires { at + self.old.width ≤ length self.old.cells.now }
         ensures { Laid self.old self.new at (replicate self.old.width v) }
     {
-        for i in 0..self.width {
-            self.cells[at + i] = v;
-        }
+        let end = at + self.width;
+        fill_cells(&mut self.cells[at..end], v);
     }
 
     /// Lays a copy of the row at `from`.
@@ -40,57 +99,53 @@ impl<'a, V: Copy> RowStack<'a, V> {
         let end = from + self.width;
         self.cells.copy_within(from..end, at);
     }
-}
 
-/// Lays over the row at `at` what an operator makes of it and of the row at `second`, which lies behind it.
-/// An inner function.
-pub fn combine<K: Kind>(rows: &mut RowStack<'_, K::Value>, op: u8, at: usize, second: usize)
-    requires behind { at + rows.old.width ≤ second }
-    requires there { second + rows.old.width ≤ length rows.old.cells.now }
-    ensures { Laid rows.old rows.new at (applied (K.Kind.meaning.apply op) (row rows.old at) (row rows.old second)) }
-{
-    for i in 0..rows.width {
-        let a = rows.cell(at + i);
-        let b = rows.cell(second + i);
-        rows.cells[at + i] = K::apply(op, a, b);
+    /// Lays over the row at `at` what an operator makes of it and of the row at `second`, which lies behind it.
+    pub fn combine<K: Kind<Value = V>>(&mut self, op: u8, at: usize, second: usize)
+        requires behind { at + self.old.width ≤ second }
+        requires there { second + self.old.width ≤ length self.old.cells.now }
+        ensures { Laid self.old self.new at (applied (K.Kind.meaning.apply op) (row self.old at) (row self.old second)) }
+    {
+        combine_rows::<K>(op, self.cells, at, second, self.width);
     }
-}
 
-/// Lays over the row at `at`, cell by cell, that of the row at `yes` or at `no`, by its truth. Both lie behind it.
-/// An inner function.
-pub fn choose<K: Kind>(rows: &mut RowStack<'_, K::Value>, at: usize, yes: usize, no: usize)
-    requires first { at + rows.old.width ≤ yes }
-    requires second { at + rows.old.width ≤ no }
-    requires yes { yes + rows.old.width ≤ length rows.old.cells.now }
-    requires no { no + rows.old.width ≤ length rows.old.cells.now }
-    ensures { Laid rows.old rows.new at (chosen K.Kind.meaning.truth (row rows.old at) (row rows.old yes) (row rows.old no)) }
-{
-    for i in 0..rows.width {
-        let from = if K::truth(rows.cell(at + i)) { yes } else { no };
-        rows.cells[at + i] = rows.cell(from + i);
+    /// Lays over the row at `at`, cell by cell, that of the row at `yes` or at `no`, by its truth. Both lie behind it.
+    pub fn choose<K: Kind<Value = V>>(&mut self, at: usize, yes: usize, no: usize)
+        requires first { at + self.old.width ≤ yes }
+        requires second { at + self.old.width ≤ no }
+        requires yes { yes + self.old.width ≤ length self.old.cells.now }
+        requires no { no + self.old.width ≤ length self.old.cells.now }
+        ensures { Laid self.old self.new at (chosen K.Kind.meaning.truth (row self.old at) (row self.old yes) (row self.old no)) }
+    {
+        choose_rows::<K>(self.cells, at, yes, no, self.width);
     }
-}
 
-/// Lays over the row at `at` one value in all cells. It begins as that of the own number in the row at `second`, and
-/// an operator takes it and the cell in the row at `at` of each aligned sender, one after the other. An inner function.
-pub fn fold<K: Kind>(
-    rows: &mut RowStack<'_, K::Value>,
-    op: u8,
-    at: usize,
-    second: usize,
-    aligned: &[bool],
-)
-    requires wide { 2 ≤ rows.old.width }
-    requires flags { rows.old.width ≤ 2 + length aligned.now }
-    requires room { at + rows.old.width ≤ length rows.old.cells.now }
-    requires there { second + rows.old.width ≤ length rows.old.cells.now }
-    ensures { Laid rows.old rows.new at (replicate rows.old.width (gathered (K.Kind.meaning.apply op) aligned.now (sender_cells rows.old at) (own_cell K.Kind.meaning rows.old second))) }
-{
-    let mut v = rows.cell(second + 1);
-    for j in 2..rows.width {
-        if aligned[j - 2] {
-            v = K::apply(op, v, rows.cell(at + j));
-        }
+    // The own value of the row at `second`, and then what an operator makes of it and of each sender's cell in the row at
+    // `at` whose flag is set, one after the other.
+    fn gather<K: Kind<Value = V>>(&self, op: u8, at: usize, second: usize, flags: &[bool]) -> V
+        requires wide { 2 ≤ self.now.width }
+        requires room { at + self.now.width ≤ length self.now.cells.now }
+        requires there { second + self.now.width ≤ length self.now.cells.now }
+        ensures { result ≡ fold (λ w p. K.Kind.meaning.apply op w p.0) (own_cell K.Kind.meaning self.now second) (filter (λ p. p.1) (zip (slice_range self.now.cells.now (at + 2) (at + self.now.width)) flags.now)) }
+    {
+        let own = self.cell(second + 1);
+        self.cells[at + 2..at + self.width]
+            .iter()
+            .zip(flags)
+            .filter(|(_, flag)| **flag)
+            .fold(own, |v, (cell, _)| K::apply(op, v, *cell))
     }
-    rows.fill(at, v);
+
+    /// Lays over the row at `at` one value in all cells. It begins as that of the own number in the row at `second`, and
+    /// an operator takes it and the cell in the row at `at` of each aligned sender, one after the other.
+    pub fn fold<K: Kind<Value = V>>(&mut self, op: u8, at: usize, second: usize, aligned: &[bool])
+        requires wide { 2 ≤ self.old.width }
+        requires flags { self.old.width ≤ 2 + length aligned.now }
+        requires room { at + self.old.width ≤ length self.old.cells.now }
+        requires there { second + self.old.width ≤ length self.old.cells.now }
+        ensures { Laid self.old self.new at (replicate self.old.width (gathered (K.Kind.meaning.apply op) aligned.now (sender_cells self.old at) (own_cell K.Kind.meaning self.old second))) }
+    {
+        let v = self.gather::<K>(op, at, second, aligned);
+        self.fill(at, v);
+    }
 }

@@ -1,5 +1,5 @@
 -- What of a row's cells is put: those that differ from the default. Assumes nothing.
-use Rattle.std.specs.Prelude.{ℕ, zero, suc, ◌+◌, cond, List, [], ◌∷◌, ◌++◌}
+use Rattle.std.specs.Prelude.{ℕ, Bool, not, cond, List, [], ◌∷◌, ◌++◌}
 use Rattle.kind.specs.Kind.{Meaning}
 use Rattle.record.specs.Trees.{Entry}
 
@@ -14,8 +14,6 @@ module _ {V : Type 0} (k : Meaning V) (d : V) where
   kept (n ∷ ns) [] = []
   kept (n ∷ ns) (x ∷ xs) = kept_one n x ++ kept ns xs
 
-  -- how many of the first n cells differ from the default
-  abbrev pub others : ℕ → List V → ℕ
-  others zero xs = 0
-  others (suc n) [] = 0
-  others (suc n) (x ∷ xs) = cond (k.same x d) 0 1 + others n xs
+  -- whether a value differs from the default
+  abbrev pub differs : V → Bool
+  differs x = not (k.same x d)

@@ -1,10 +1,10 @@
-ghost use Rattle.std.specs.Prelude.{◌≡◌, ◌+◌, ◌*◌, ◌<◌, ◌≤◌, ◌∷◌, ◌++◌, length, take, drop};
+ghost use Rattle.std.specs.Prelude.{◌≡◌, ◌+◌, ◌*◌, ◌<◌, ◌≤◌, length, nat_le, count_by};
+ghost use Rattle.std.specs.List.{take_while};
 ghost use Rattle.program.specs.Measures.{record_weight};
-ghost use Rattle.record.specs.Growth.{Grown};
+ghost use Rattle.record.specs.Growth.{Puts};
 ghost use Rattle.record.specs.Writing.{written_entries};
 ghost use Rattle.row_stack.specs.Rows.{row};
-ghost use Rattle.rules.specs.Rules.{with_own};
-ghost use Rattle.sending.specs.Kept.{kept, kept_one, others};
+ghost use Rattle.sending.specs.Kept.{kept, kept_one, differs};
 ghost use Rattle.sending.specs.Sending.{Put};
 
 use kind::kind::Kind;
@@ -14,62 +14,41 @@ use row_stack::row_stack::RowStack;
 
 // How many of the numbers come before the own one, in rising order.
 fn count_before(node: u16, numbers: &[u16]) -> usize
-    ensures within { result ≤ length numbers.now }
-    ensures split { with_own node numbers.now ≡ take result numbers.now ++ (node ∷ drop result numbers.now) }
+    ensures { result ≡ length (take_while (λ n. nat_le n node) numbers.now) }
 {
-    for (i, n) in numbers.iter().enumerate() {
-        if node < *n {
-            return i;
-        }
-    }
-    numbers.len()
+    numbers.iter().take_while(|n| **n <= node).count()
 }
 
-// How many of the cells differ from the default: there are `cells`, from `first` on.
-fn count_other<K: Kind>(
-    rows: &RowStack<'_, K::Value>,
-    first: usize,
-    cells: usize,
-    default: K::Value,
-) -> usize
-    requires { first + cells ≤ length rows.now.cells.now }
-    ensures { result ≡ others K.Kind.meaning default cells (drop first rows.now.cells.now) }
+// How many of the cells differ from the default.
+fn count_other<K: Kind>(cells: &[K::Value], default: K::Value) -> usize
+    ensures { result ≡ count_by (differs K.Kind.meaning default) cells.now }
 {
-    let mut count = 0;
-    for i in 0..cells {
-        if rows.cell(first + i) != default {
-            count += 1;
-        }
-    }
-    count
+    cells.iter().filter(|v| **v != default).count()
 }
 
 // Puts the entry of a number, if its value differs from the default.
 fn put_other<K: Kind>(output: &mut Output<'_>, number: u16, v: K::Value, default: K::Value)
     requires { output.old.len + (2 + K.Kind.meaning.width) ≤ length output.old.bytes.now }
-    ensures named { output.new.bytes.ghost_name ≡ output.old.bytes.ghost_name }
-    ensures grown { Grown output.old.bytes.now output.old.len output.new.bytes.now output.new.len (written_entries K.Kind.meaning (kept_one K.Kind.meaning default number v)) }
+    ensures { Puts output.old output.new (written_entries K.Kind.meaning (kept_one K.Kind.meaning default number v)) }
 {
     if v != default {
         put_entry::<K>(output, number as usize, v);
     }
 }
 
-// Puts the entries of the numbers whose cells differ from the default. Their cells begin at `first`.
+// Puts the entries of the numbers whose cells differ from the default.
 fn put_others<K: Kind>(
     output: &mut Output<'_>,
-    rows: &RowStack<'_, K::Value>,
-    first: usize,
     numbers: &[u16],
+    cells: &[K::Value],
     default: K::Value,
 )
-    requires there { first + length numbers.now ≤ length rows.now.cells.now }
+    requires there { length numbers.now ≤ length cells.now }
     requires room { output.old.len + length numbers.now * (2 + K.Kind.meaning.width) ≤ length output.old.bytes.now }
-    ensures named { output.new.bytes.ghost_name ≡ output.old.bytes.ghost_name }
-    ensures grown { Grown output.old.bytes.now output.old.len output.new.bytes.now output.new.len (written_entries K.Kind.meaning (kept K.Kind.meaning default numbers.now (drop first rows.now.cells.now))) }
+    ensures { Puts output.old output.new (written_entries K.Kind.meaning (kept K.Kind.meaning default numbers.now cells.now)) }
 {
     for (i, n) in numbers.iter().enumerate() {
-        put_other::<K>(output, *n, rows.cell(first + i), default);
+        put_other::<K>(output, *n, cells[i], default);
     }
 }
 
@@ -88,15 +67,13 @@ pub fn put_sent<K: Kind>(
     requires there { at + rows.now.width ≤ length rows.now.cells.now }
     requires small { place < 65536 }
     requires room { output.old.len + record_weight K.Kind.meaning.width ≤ length output.old.bytes.now }
-    ensures named { output.new.bytes.ghost_name ≡ output.old.bytes.ghost_name }
-    ensures put { Put K.Kind.meaning place node numbers.now (row rows.now at) output.old.bytes.now output.old.len output.new.bytes.now output.new.len }
+    ensures { Put K.Kind.meaning place node numbers.now (row rows.now at) output.old output.new }
 {
-    let default = rows.cell(at);
-    let own = rows.cell(at + 1);
+    let row = rows.row(at);
+    let (default, own, cells) = (row[0], row[1], &row[2..]);
     let before = count_before(node, numbers);
-    let count = count_other::<K>(rows, at + 1, 1 + numbers.len(), default);
-    put_head::<K>(output, place, default, count);
-    put_others::<K>(output, rows, at + 2, &numbers[..before], default);
+    put_head::<K>(output, place, default, count_other::<K>(&row[1..], default));
+    put_others::<K>(output, &numbers[..before], cells, default);
     put_other::<K>(output, node, own, default);
-    put_others::<K>(output, rows, at + 2 + before, &numbers[before..], default);
+    put_others::<K>(output, &numbers[before..], &cells[before..], default);
 }

@@ -1,6 +1,7 @@
 -- What ifs and exchanges leave behind: cursors, and the record of a row.
 use Rattle.std.proofs.Common.{◌≡◌, ℕ, zero, suc, ◌<◌, ◌≤◌, List, [], ◌∷◌, map, length, get_or, take, sym, refl, ap, ◌∙◌, subst, arith, length-take-le, get_or-take, ext_get_or}
 use Rattle.kind.specs.Kind.{Meaning}
+use Rattle.record.specs.declared.output.Output.{Output}
 use Rattle.record.specs.Writing.{written_record}
 use Rattle.rules.specs.Rules.{Sender, Field, Given, senders, record_of}
 use Rattle.cursor.proofs.Standing.{stands_later}
@@ -47,10 +48,10 @@ module _ {V : Type 0} (k : Meaning V) (x : Inputs) (g : Given V) (gives : Gives 
           ∙ sym (senders_nth g.held j none (omega (arith, h, many)))
 
   -- the record that was put from the row of a field
-  pub put_means : (f : Field V) (p : ℕ) (xs : List V) {old new : List ℕ} {used top : ℕ} (put : Put k p x.node (take x.slots.now.count x.slots.now.numbers) xs old used new top)
+  pub put_means : (f : Field V) (p : ℕ) (xs : List V) {o o' : Output} (put : Put k p x.node (take x.slots.now.count x.slots.now.numbers) xs o o')
       → xs ≡ map f (spots g) → put.bytes ≡ written_record k (record_of k g p f)
-  put_means f p xs {old} {new} {used} {top} put row =
-      let Means : ℕ → List ℕ → List V → Type 0 = λ me ns ys. (q : Put k p me ns ys old used new top) → q.bytes ≡ written_record k (record_of k g p f) in
+  put_means f p xs {o} {o'} put row =
+      let Means : ℕ → List ℕ → List V → Type 0 = λ me ns ys. (q : Put k p me ns ys o o') → q.bytes ≡ written_record k (record_of k g p f) in
       let start : Means g.number (senders g.held) (map f (spots g)) = λ q. put_record_of k g f q in
       subst (λ (ys : List V). Means x.node (take x.slots.now.count x.slots.now.numbers) ys) (sym row)
       (subst (λ (ns : List ℕ). Means x.node ns (map f (spots g))) (sym slot_numbers)

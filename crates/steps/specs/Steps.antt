@@ -8,7 +8,7 @@ use Rattle.program.specs.declared.expression.Expression.TheVariants.{Literal, Va
 use Rattle.program.specs.Measures.{record_weight}
 use Rattle.program.specs.Programs.{shown}
 use Rattle.record.specs.declared.output.Output.{Output}
-use Rattle.record.specs.Growth.{Grown}
+use Rattle.record.specs.Growth.{Puts}
 use Rattle.record.specs.Trees.{choice}
 use Rattle.record.specs.Writing.{written_record}
 use Rattle.row_stack.specs.declared.row_stack.RowStack.{RowStack}
@@ -95,7 +95,7 @@ module _ {V : Type 0} (k : Meaning V) (flags : List Bool) (s : RowStack V) (base
 
 -- IFS: the choice is written, the cursors are moved on to the if's place, and the flags of the senders that stay aligned are made
 pub record Parted {V : Type 0} (k : Meaning V) (x : Inputs) (flags still : List Bool) (place : ℕ) (first : Bool) (o o' : Output) (c c' : Cursors) : Type 0 where
-  pub wrote : Grown o.bytes.now o.len o'.bytes.now o'.len (written_record k (choice place first))
+  pub wrote : Puts o o' (written_record k (choice place first))
   pub long : length still ≡ 16
   pub aligned : (g : Given V) (al : ℕ → Bool) (low : ℕ) → Gives k x g → Flags g al flags → Standing k x g low c → low ≤ place → Flags g (narrowed g al place first) still
   pub stands : (g : Given V) (low : ℕ) → Gives k x g → Standing k x g low c → low ≤ place → Standing k x g (place + 1) c'
@@ -138,7 +138,7 @@ outcome_rows Choose top w = (top, top)
 pub record Handed {V : Type 0} (k : Meaning V) (x : Inputs) (place base returned sent : ℕ) (s t : RowStack V) (o o' : Output) (c c' : Cursors) : Type 0 where
   pub laid : Laid s t base (row s returned)
   pub bytes : List ℕ
-  pub wrote : Grown o.bytes.now o.len o'.bytes.now o'.len bytes
+  pub wrote : Puts o o' bytes
   pub light : length bytes ≤ record_weight k.width
   pub means : (g : Given V) (f : Field V) → Gives k x g → row s sent ≡ row_of g f → bytes ≡ written_record k (record_of k g place f)
   pub stands : (g : Given V) (low : ℕ) → Gives k x g → Standing k x g low c → low ≤ place + 1 → Standing k x g (place + 1) c'

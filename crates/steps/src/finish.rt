@@ -5,12 +5,11 @@ ghost use Rattle.steps.specs.Steps.{Computed, computed};
 use kind::kind::Kind;
 use program::expression::Expression;
 use row_stack::row_stack::RowStack;
-use row_stack::rows::{choose, combine, fold};
 
 /// Makes the row of an expression of the rows of its parts, over the first of them. An inner function.
 pub fn finish<K: Kind>(
     e: Expression,
-    aligned: &[bool],
+    aligned: &[bool; 16],
     rows: &mut RowStack<'_, K::Value>,
     base: usize,
 )
@@ -22,13 +21,13 @@ pub fn finish<K: Kind>(
 {
     let second = base + rows.width;
     match e {
-        Expression::Operator(op) => combine::<K>(rows, op, base, second),
-        Expression::Fold(op) => fold::<K>(rows, op, base, second, aligned),
+        Expression::Operator(op) => rows.combine::<K>(op, base, second),
+        Expression::Fold(op) => rows.fold::<K>(op, base, second, aligned),
         Expression::Own => {
             let own = rows.cell(base + 1);
             rows.fill(base, own);
         }
-        Expression::Choose => choose::<K>(rows, base, second, second + rows.width),
+        Expression::Choose => rows.choose::<K>(base, second, second + rows.width),
         _ => unreachable(),
     }
 }

@@ -1,6 +1,7 @@
 ghost use Rattle.std.specs.Prelude.{◌≡◌, ◌≤◌, length};
 
 /// Where the rows of the variables in sight begin.
+// An array and a count: a frame is copied at each binding, and the kit's vectors of fixed memory are no Copy.
 #[derive(Clone, Copy)]
 pub struct Frame {
     rows: [u16; 40],

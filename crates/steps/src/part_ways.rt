@@ -14,15 +14,13 @@ pub fn part_ways<K: Kind>(
     x: &Inputs<'_>,
     place: usize,
     first: bool,
-    aligned: &[bool],
+    aligned: &[bool; 16],
     output: &mut Output<'_>,
     cursors: &mut Cursors,
 ) -> [bool; 16]
-    requires flags { length aligned.now ≡ 16 }
     requires room { output.old.len + 5 ≤ length output.old.bytes.now }
     requires small { place < 65536 }
-    ensures named { output.new.bytes.ghost_name ≡ output.old.bytes.ghost_name }
-    ensures parted { Parted K.Kind.meaning x.now aligned.now result place first output.old output.new cursors.old cursors.new }
+    ensures { Parted K.Kind.meaning x.now aligned.now result place first output.old output.new cursors.old cursors.new }
 {
     put_choice::<K>(output, place, first);
     advance::<K>(x, cursors, place);

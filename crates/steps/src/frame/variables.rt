@@ -18,11 +18,7 @@ impl Frame {
     pub fn row(&self, i: usize) -> Option<usize>
         ensures { result ≡ found_row self.now i }
     {
-        if i < self.count {
-            Some(self.rows[i] as usize)
-        } else {
-            None
-        }
+        self.rows[..self.count].get(i).map(|row| *row as usize)
     }
 
     /// These, and one more. An inner function: there is room, and the row has an index of two bytes.

@@ -4,15 +4,12 @@ use Rattle.steps.proofs.hand_over.hand_over.Goals as goal
 
 pub returns : goal.returns
 returns g c =
-    let put = c.put_sent.ensures.put in
+    let put = c.put_sent.ensures in
     record {
-      named = c.put_sent.ensures.named;
-      handed = record {
-        laid = c.copy.ensures;
-        bytes = put.bytes;
-        wrote = put.grown;
-        light = put.light;
-        means = λ given f gives row. put_means g.K.Kind.meaning c.args.x.now given gives f c.args.place (row_at c.args.rows.now c.args.found.1) put row;
-        stands = λ given low gives stands le. c.advance.ensures given low gives stands le;
-      };
+      laid = c.copy.ensures;
+      bytes = put.bytes;
+      wrote = put.puts;
+      light = put.light;
+      means = λ given f gives row. put_means g.K.Kind.meaning c.args.x.now given gives f c.args.place (row_at c.args.rows.now c.args.found.sent) put row;
+      stands = λ given low gives stands le. c.advance.ensures given low gives stands le;
     }

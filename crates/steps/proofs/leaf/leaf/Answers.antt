@@ -18,7 +18,7 @@ returns-in-Some g c =
 pub returns-in-None : goal.returns-in-None
 returns-in-None g c =
     missing_laid g.K.Kind.meaning c.args.x.now c.args.frame.now c.args.rows.now c.fill-in-None.new.self c.args.base c.requires.wide
-    c.args.e c.in-Variable.n c.own_value.result c.in-Variable.is (sym c.row.ensures ∙ c.in-None.is) c.own_value.ensures c.fill-in-None.ensures
+    c.args.e c.in-Variable.n c.OWN.result c.in-Variable.is (sym c.row.ensures ∙ c.in-None.is) (c.OWN.ensures ∙ g.met.K.Kind.own_is) c.fill-in-None.ensures
 
 pub returns-in-Sensor : goal.returns-in-Sensor
 returns-in-Sensor g c =

@@ -1,5 +1,5 @@
 use Rattle.std.proofs.Common.{◌+◌, ◌*◌}
-use Rattle.round.proofs.work.+bind_branch_call_compute_exchange_work_work_parts.Given as goal
+use Rattle.round.proofs.worker.Worker.+working.Given as goal
 
 abbrev pub decreases-bind : goal.decreases-bind
 decreases-bind g l = 20 * l.task.depth
