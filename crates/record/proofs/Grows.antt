@@ -1,5 +1,5 @@
 -- Outputs that grow. Assumes nothing.
-use Rattle.std.proofs.Common.{◌≡◌, ℕ, zero, suc, ◌+◌, ◌-◌, ◌≤◌, Bool, true, false, cond, List, [], ◌∷◌, ◌++◌, length, take, drop, set, sym, refl, ap, ◌∙◌, subst, append_assoc, append-nil, arith, length-append, length-drop, length-take, drop-drop, take_at, take-add, drop_at}
+use Rattle.std.proofs.Common.{◌≡◌, ℕ, ◌+◌, ◌-◌, ◌≤◌, Bool, true, false, cond, List, [], ◌++◌, length, take, drop, sym, refl, ap, ◌∙◌, subst, append_assoc, append-nil, arith, length-append, length-take, drop-drop, take-add, drop_at}
 use mir.Val.{bool_byte}
 use Rattle.record.specs.Fields.{part}
 use Rattle.record.specs.declared.output.Output.{Output}
@@ -30,31 +30,9 @@ puts_after a b = record { lender = b.lender ∙ a.lender; grown = grown_after a.
 pub puts_is : {o n : Output} {xs ys : List ℕ} → xs ≡ ys → Puts o n xs → Puts o n ys
 puts_is {o} {n} e h = subst (Puts o n) e h
 
-pub drop_set : (l : List ℕ) (i v : ℕ) → drop (i + 1) (set l i v) ≡ drop (i + 1) l
-drop_set l i v = subst (λ j. drop j (set l i v) ≡ drop j l) (let e : suc i ≡ i + 1 = omega arith in e) (go l i)
-  where
-    go : (l : List ℕ) (i : ℕ) → drop (suc i) (set l i v) ≡ drop (suc i) l
-    go [] zero = refl
-    go [] (suc i) = refl
-    go (x ∷ l) zero = refl
-    go (x ∷ l) (suc i) = go l i
-
 pub bit_is : (b : Bool) → bool_byte b ≡ cond b 1 0
 bit_is true = refl
 bit_is false = refl
-
--- a part is written at a position
-pub grown_at : (xs ys new : List ℕ) (a w e : ℕ) → length ys ≡ w → a + w ≤ length xs → e ≡ a + w → new ≡ take a xs ++ (ys ++ drop e xs) → Grown xs a new e ys
-grown_at xs ys new a w e long room end is =
-    let front_long : length (take a xs) ≡ a = simp length-take (omega arith) in
-    let l : length (take a xs ++ ys) ≡ e = simp length-append (omega arith) in
-    let split : new ≡ (take a xs ++ ys) ++ drop e xs = is ∙ sym (append_assoc (take a xs) ys (drop e xs)) in
-    record {
-      room = ap length is ∙ simp (length-append, length-take, length-drop) (omega arith);
-      top_is = omega arith;
-      front = ap (take e) split ∙ take_at (take a xs ++ ys) (drop e xs) e l;
-      tail = ap (drop e) split ∙ drop_at (take a xs ++ ys) (drop e xs) e l;
-    }
 
 -- what was put behind the front is the part there
 pub grown_part : {old new more : List ℕ} {used top : ℕ} → Grown old used new top more → used ≤ length old → part new used (top - used) ≡ more

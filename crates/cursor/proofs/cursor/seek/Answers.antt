@@ -1,10 +1,6 @@
 use Rattle.std.proofs.Common.{◌<◌, arith}
-use Rattle.cursor.proofs.Standing.{stands_later}
 use Rattle.cursor.proofs.Meeting.{stands_next}
 use Rattle.cursor.proofs.cursor.seek.Goals as goal
-
-pub loop-found-init : goal.loop-found-init
-loop-found-init g c = λ rs low readable stands le. stands_later stands le
 
 pub loop-found-preserved : goal.loop-found-preserved
 loop-found-preserved g c = λ rs low readable stands le.

@@ -1,14 +1,6 @@
-use Rattle.std.proofs.Common.{◌+◌, ◌*◌, ◌≤◌, arith, mul-le-mul_right}
+use Rattle.std.proofs.Common.{arith}
 use Rattle.record.proofs.Rows.{behind_is}
 use Rattle.record.proofs.record.framed.Goals as goal
-
-pub overflow_mul-count : goal.overflow_mul-count
-overflow_mul-count c =
-    let size = 2 + c.args.width in
-    let few : c.in_ok-count-in-Exchange.field-0-0.now * size ≤ 255 * size = mul-le-mul_right size (omega arith) in
-    let a = c.in_ok-place.ensures.cases in
-    let b = c.in_ok-default-in-Exchange.ensures.cases in
-    record { fits = omega arith }
 
 pub returns-else-entries-count-clause-formed : goal.returns-else-entries-count-clause-formed
 returns-else-entries-count-clause-formed c =
