@@ -19,6 +19,7 @@ impl<'a> Inbox for PackedInbox<'a> {
         ensures untouched { IfRefused result (self.new ≡ self.old) }
         ensures memory { Rewrites self.old.memory self.new.memory (laid_in (contents self.new).items (lent self.old)) }
     {
+        // The steps of any put, but each on what is this inbox's own, so they are not one generic function.
         let room = Room {
             held: self.find(sender).is_some(),
             count: self.table.len(),

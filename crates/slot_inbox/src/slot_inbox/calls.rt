@@ -13,6 +13,7 @@ impl Inbox for SlotInbox {
     ghost lawful = { slot_inbox_lawful };
 
     fn put(&mut self, sender: u16, item: &[u8]) -> Result<(), Refusal> {
+        // The steps of any put, but each on what is this inbox's own, so they are not one generic function.
         // Each sender has room for the longest item, whatever the others have.
         let room = Room {
             held: self.place(sender).is_some(),

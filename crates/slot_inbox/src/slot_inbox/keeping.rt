@@ -51,7 +51,7 @@ impl SlotInbox {
         self.slots.iter().flatten().count()
     }
 
-    // Adds an item of a sender that has none.
+    // Adds an item of a sender that has none. What is asked is of the inbox and the item together, so no type says it.
     pub(super) fn insert(&mut self, sender: u16, item: &[u8])
         requires free { holds (contents self.old).items sender ≡ false }
         requires few { length (contents self.old).items < (contents self.old).sender_limit }
