@@ -16,6 +16,7 @@ impl Program {
     }
 
     /// The number of the kind that it was checked for.
+    // A number, and no enum: kinds are open, and one of a user brings its own.
     pub fn kind(&self) -> u8
         ensures { result ≡ (shown self.now).shape.number }
     {
