@@ -1,5 +1,6 @@
 -- Readings, the last own tree, and what stands on the output in the end.
-use Rattle.std.proofs.Common.{◌≡◌, ℕ, zero, suc, ◌+◌, ◌-◌, ◌*◌, ◌<◌, ◌≤◌, Bool, true, false, cond, eqb, ◌≢◌, List, [], ◌∷◌, ◌++◌, length, get_or, take, drop, is_some, Some, None, Ok, Err, Option, unwrap_or, sym, refl, ap, ◌∙◌, subst, suc-mul, add-mul, one-mul, zero-mul, arith, length-append, length-drop, take-append-drop, length-take, drop-drop, drop_at, eq-eqb, ne_eqb}
+use Rattle.std.specs.Result.{result_eq}
+use Rattle.std.proofs.Common.{eqb-true, ◌≡◌, ℕ, zero, suc, ◌+◌, ◌-◌, ◌*◌, ◌<◌, ◌≤◌, Bool, true, false, cond, eqb, ◌≢◌, List, [], ◌∷◌, ◌++◌, length, get_or, take, drop, is_some, Some, None, Ok, Err, Option, unwrap_or, sym, refl, ap, ◌∙◌, subst, suc-mul, add-mul, one-mul, zero-mul, arith, length-append, length-drop, take-append-drop, length-take, drop-drop, drop_at, eq-eqb, ne_eqb}
 use Rattle.std.proofs.lemmas.Bool.Decides.{nat_tests}
 use Rattle.refusal.specs.Outcomes.{Outcome, refusal, refuse, after, must, mapped}
 use Rattle.refusal.specs.declared.cause.Cause.TheVariants as cause
@@ -165,6 +166,15 @@ module _ {V : Type 0} (k : Meaning V) (lawful : Lawful k) (p : Program) (me : �
       go : (o : Outcome (Tree V)) → message k plan number (other_node me) last ≡ o → Err r ≡ mapped sender_of o → Readable k [] (records_by me o)
       go (Err x) h q = readable_none
       go (Ok t) h q = let z : ◌≡◌ {A = ℕ} 0 1 = cc in absurd (omega arith)
+
+  -- by whether the other node read a tree of this one
+  pub own_true : (same : Refusal → Refusal → Bool) (o : Outcome ℕ) → o ≡ mapped sender_of (tree_in k p (other_node me) last) → result_eq eqb same o (Ok me) ≡ true → Readable k last (last_in k plan number me last)
+  own_true same (Ok s) e h = own_counts s e (eqb-true s me h)
+  own_true same (Err r) e h = absurd (cc)
+
+  pub own_false : (same : Refusal → Refusal → Bool) (o : Outcome ℕ) → o ≡ mapped sender_of (tree_in k p (other_node me) last) → result_eq eqb same o (Ok me) ≡ false → Readable k [] (last_in k plan number me last)
+  own_false same (Ok s) e h = own_other s e (λ q. let z : eqb s me ≡ true = eq-eqb s me q in absurd (cc))
+  own_false same (Err r) e h = own_refused r e
 
 -- THE OUTPUT: the header in front of the records, and the old tail
 pub tree_out : (old mid new tree header : List ℕ) (n : ℕ) → n ≤ length old → length mid ≡ length old → length header ≡ 9 → 9 ≤ n

@@ -23,7 +23,12 @@ use unfolding::step::{count_parts, expression_at, parts_start};
 impl<'m, V: Copy> Worker<'m, V> {
     // Works the expression at `at`: lays its row at `base`, puts its records, passes its places, and answers where it ends.
     #[cycle(working)]
-    pub(crate) fn work<K: Kind<Value = V>>(&mut self, scene: &Scene<'_, '_>, output: &mut Output<'_>, task: Task) -> usize
+    pub(crate) fn work<K: Kind<Value = V>>(
+        &mut self,
+        scene: &Scene<'_, '_>,
+        output: &mut Output<'_>,
+        task: Task,
+    ) -> usize
         requires ready { ReadyOne K.Kind.meaning scene.now.inputs.now scene.now.aligned.now scene.now.frame.now task.base task.depth task.at (seen self.old output.old) }
         ensures { Worked K.Kind.meaning scene.now.inputs.now scene.now.aligned.now scene.now.frame.now task.base (seen self.old output.old) (seen self.new output.new) result (unfolded_in scene.now.inputs.now.program.now task.depth task.at) }
     {
@@ -67,12 +72,27 @@ impl<'m, V: Copy> Worker<'m, V> {
         }
         let next = self.work::<K>(scene, output, task);
         let base = task.base + self.rows.width;
-        self.work_parts::<K>(scene, output, Task { at: next, base, ..task }, count - 1)
+        self.work_parts::<K>(
+            scene,
+            output,
+            Task {
+                at: next,
+                base,
+                ..task
+            },
+            count - 1,
+        )
     }
 
     // An expression whose value is made of the rows of its parts.
     #[cycle(working)]
-    fn compute<K: Kind<Value = V>>(&mut self, scene: &Scene<'_, '_>, output: &mut Output<'_>, task: Task, e: Expression) -> usize
+    fn compute<K: Kind<Value = V>>(
+        &mut self,
+        scene: &Scene<'_, '_>,
+        output: &mut Output<'_>,
+        task: Task,
+        e: Expression,
+    ) -> usize
         requires ready { ReadyOne K.Kind.meaning scene.now.inputs.now scene.now.aligned.now scene.now.frame.now task.base task.depth task.at (seen self.old output.old) }
         requires step { Some e ≡ expression_at (shown scene.now.inputs.now.program.now).block task.at }
         requires parts { Computed e }
@@ -89,88 +109,138 @@ impl<'m, V: Copy> Worker<'m, V> {
 
     // A let: the second part sees the row of the first.
     #[cycle(working)]
-    fn bind<K: Kind<Value = V>>(&mut self, scene: &Scene<'_, '_>, output: &mut Output<'_>, task: Task) -> usize
+    fn bind<K: Kind<Value = V>>(
+        &mut self,
+        scene: &Scene<'_, '_>,
+        output: &mut Output<'_>,
+        task: Task,
+    ) -> usize
         requires ready { ReadyOne K.Kind.meaning scene.now.inputs.now scene.now.aligned.now scene.now.frame.now task.base task.depth task.at (seen self.old output.old) }
         requires step { Some Expression.Let ≡ expression_at (shown scene.now.inputs.now.program.now).block task.at }
         ensures { Worked K.Kind.meaning scene.now.inputs.now scene.now.aligned.now scene.now.frame.now task.base (seen self.old output.old) (seen self.new output.new) result (unfolded_in scene.now.inputs.now.program.now task.depth task.at) }
     {
-        let part = Task { depth: task.depth - 1, ..task };
-        let next = self.work::<K>(scene, output, Task { at: task.at + 1, ..part });
-        let frame = scene.frame.with(task.base);
-        let top = task.base + self.rows.width;
-        let inner = Scene { frame: &frame, ..*scene };
-        let end = self.work::<K>(&inner, output, Task { at: next, base: top, ..part });
-        self.rows.copy(top, task.base);
+        let (at, depth) = (task.at + 1, task.depth - 1);
+        let part = Task { at, depth, ..task };
+        let next = self.work::<K>(scene, output, part);
+        let frame = &scene.frame.with(task.base);
+        let inner = Scene { frame, ..*scene };
+        let (at, base) = (next, task.base + self.rows.width);
+        let end = self.work::<K>(&inner, output, Task { at, base, ..part });
+        self.rows.copy(base, task.base);
         end
     }
 
     // A call: the arguments' rows are the variables of the called body.
     #[cycle(working)]
-    fn call<K: Kind<Value = V>>(&mut self, scene: &Scene<'_, '_>, output: &mut Output<'_>, task: Task, n: u8) -> usize
+    fn call<K: Kind<Value = V>>(
+        &mut self,
+        scene: &Scene<'_, '_>,
+        output: &mut Output<'_>,
+        task: Task,
+        n: u8,
+    ) -> usize
         requires ready { ReadyOne K.Kind.meaning scene.now.inputs.now scene.now.aligned.now scene.now.frame.now task.base task.depth task.at (seen self.old output.old) }
         requires step { Some (Expression.Call n) ≡ expression_at (shown scene.now.inputs.now.program.now).block task.at }
         ensures { Worked K.Kind.meaning scene.now.inputs.now scene.now.aligned.now scene.now.frame.now task.base (seen self.old output.old) (seen self.new output.new) result (unfolded_in scene.now.inputs.now.program.now task.depth task.at) }
     {
         let called = scene.inputs.program.function(n);
         let count = called.parameters as usize;
-        let part = Task { depth: task.depth - 1, ..task };
-        let end = self.work_parts::<K>(scene, output, Task { at: task.at + 2, ..part }, count);
+        let (at, depth) = (task.at + 2, task.depth - 1);
+        let part = Task { at, depth, ..task };
+        let end = self.work_parts::<K>(scene, output, part, count);
         let (frame, top) = arguments(task.base, self.rows.width, count);
-        let inner = Scene { frame: &frame, ..*scene };
-        let _ = self.work::<K>(&inner, output, Task { at: called.start, base: top, ..part });
-        self.rows.copy(top, task.base);
+        let frame = &frame;
+        let inner = Scene { frame, ..*scene };
+        let (at, base) = (called.start, top);
+        let _ = self.work::<K>(&inner, output, Task { at, base, ..part });
+        self.rows.copy(base, task.base);
         end
     }
 
     // An exchange or share: its place is behind its parts, and the parts behind the initial one see what is received.
     #[cycle(working)]
-    fn exchange<K: Kind<Value = V>>(&mut self, scene: &Scene<'_, '_>, output: &mut Output<'_>, task: Task, e: Expression) -> usize
+    fn exchange<K: Kind<Value = V>>(
+        &mut self,
+        scene: &Scene<'_, '_>,
+        output: &mut Output<'_>,
+        task: Task,
+        e: Expression,
+    ) -> usize
         requires ready { ReadyOne K.Kind.meaning scene.now.inputs.now scene.now.aligned.now scene.now.frame.now task.base task.depth task.at (seen self.old output.old) }
         requires step { Some e ≡ expression_at (shown scene.now.inputs.now.program.now).block task.at }
         requires sends { Sends e }
         ensures { Worked K.Kind.meaning scene.now.inputs.now scene.now.aligned.now scene.now.frame.now task.base (seen self.old output.old) (seen self.new output.new) result (unfolded_in scene.now.inputs.now.program.now task.depth task.at) }
     {
         let x = scene.inputs;
-        let part = Task { depth: task.depth - 1, ..task };
-        let next = self.work::<K>(scene, output, Task { at: task.at + 1, ..part });
+        let (at, depth) = (task.at + 1, task.depth - 1);
+        let part = Task { at, depth, ..task };
+        let next = self.work::<K>(scene, output, part);
         let initial = self.rows.cell(task.base + 1);
         let count = e.part_count(0) - 1;
-        let (_, inside) = skip_parts(x.program, count, next, part.depth);
+        let (_, inside) = skip_parts(x.program, count, next, depth);
         let here = self.place + inside;
-        let (cursors, aligned) = (self.cursors, scene.aligned);
-        receive::<K>(x, &cursors, here, aligned, initial, &mut self.rows, task.base);
-        let frame = scene.frame.with(task.base);
-        let top = task.base + self.rows.width;
-        let inner = Scene { frame: &frame, ..*scene };
-        let end = self.work_parts::<K>(&inner, output, Task { at: next, base: top, ..part }, count);
-        let found = rows_found(e, top, self.rows.width);
-        hand_over::<K>(x, here, task.base, found, &mut self.rows, output, &mut self.cursors);
+        receive::<K>(
+            x,
+            &self.cursors,
+            here,
+            scene.aligned,
+            initial,
+            &mut self.rows,
+            task.base,
+        );
+        let frame = &scene.frame.with(task.base);
+        let inner = Scene { frame, ..*scene };
+        let (at, base) = (next, task.base + self.rows.width);
+        let end = self.work_parts::<K>(&inner, output, Task { at, base, ..part }, count);
+        let found = rows_found(e, base, self.rows.width);
+        hand_over::<K>(
+            x,
+            here,
+            task.base,
+            found,
+            &mut self.rows,
+            output,
+            &mut self.cursors,
+        );
         self.place = here + 1;
         end
     }
 
     // An if: only the chosen branch is worked, with the senders that chose it too. The places of the other are passed over.
     #[cycle(working)]
-    fn branch<K: Kind<Value = V>>(&mut self, scene: &Scene<'_, '_>, output: &mut Output<'_>, task: Task) -> usize
+    fn branch<K: Kind<Value = V>>(
+        &mut self,
+        scene: &Scene<'_, '_>,
+        output: &mut Output<'_>,
+        task: Task,
+    ) -> usize
         requires ready { ReadyOne K.Kind.meaning scene.now.inputs.now scene.now.aligned.now scene.now.frame.now task.base task.depth task.at (seen self.old output.old) }
         requires step { Some Expression.If ≡ expression_at (shown scene.now.inputs.now.program.now).block task.at }
         ensures { Worked K.Kind.meaning scene.now.inputs.now scene.now.aligned.now scene.now.frame.now task.base (seen self.old output.old) (seen self.new output.new) result (unfolded_in scene.now.inputs.now.program.now task.depth task.at) }
     {
         let program = scene.inputs.program;
-        let part = Task { depth: task.depth - 1, ..task };
-        let next = self.work::<K>(scene, output, Task { at: task.at + 1, ..part });
+        let (at, depth) = (task.at + 1, task.depth - 1);
+        let part = Task { at, depth, ..task };
+        let next = self.work::<K>(scene, output, part);
         let first = K::truth(self.rows.cell(task.base + 1));
-        let here = self.place;
-        let still = part_ways::<K>(scene.inputs, here, first, scene.aligned, output, &mut self.cursors);
-        let inner = Scene { aligned: &still, ..*scene };
-        self.place = here + 1;
+        let place = self.place;
+        let aligned = &part_ways::<K>(
+            scene.inputs,
+            place,
+            first,
+            scene.aligned,
+            output,
+            &mut self.cursors,
+        );
+        let inner = Scene { aligned, ..*scene };
+        self.place = place + 1;
         if first {
             let second = self.work::<K>(&inner, output, Task { at: next, ..part });
-            let (end, inside) = skip(program, second, part.depth);
+            let (end, inside) = skip(program, second, depth);
             self.place += inside;
             end
         } else {
-            let (second, inside) = skip(program, next, part.depth);
+            let (second, inside) = skip(program, next, depth);
             self.place += inside;
             self.work::<K>(&inner, output, Task { at: second, ..part })
         }

@@ -2,7 +2,7 @@ ghost use Rattle.std.specs.Prelude.{◌≡◌, ◌≤◌, true, List, length, If
 ghost use Rattle.refusal.specs.Outcomes.{mapped};
 ghost use Rattle.inbox.specs.Calls.{IfRefused};
 ghost use Rattle.program.specs.Programs.{shown, run_of};
-ghost use Rattle.program.specs.Verdict.{suits as suits_kind};
+ghost use Rattle.program.specs.Verdict.{suits};
 ghost use Rattle.record.specs.Headers.{most_bytes};
 ghost use Rattle.record.specs.Plans.{due};
 ghost use Rattle.rules.specs.Working.{readings_in, other_node, last_in, working_values, working_bytes, worked_out, outcome_of, told, on_output};
@@ -17,8 +17,8 @@ use held::load::load;
 use held::slots::Slots;
 use inbox::inbox::Inbox;
 use kind::kind::Kind;
-use program::check::suits;
 use program::program::Program;
+use program::suited::ProgramFor;
 use record::header::{HEADER_LENGTH, MOST_BYTES};
 use record::output::Output;
 use record::write::put_header;
@@ -67,19 +67,19 @@ fn another(node: u16) -> u16
 }
 
 // The last own tree, as far as it counts: no bytes, unless another node takes them for a tree of this one.
-fn own_tree<'l, K: Kind>(program: &Program, node: u16, last: &'l [u8]) -> &'l [u8]
-    requires { suits_kind K.Kind.meaning (shown program.now) ≡ true }
-    ensures { Readable K.Kind.meaning result.now (last_in K.Kind.meaning (due (run_of program.now) 0) (shown program.now).header.number node last.now) }
+fn own_tree<'l, K: Kind>(program: &ProgramFor<'_, K>, node: u16, last: &'l [u8]) -> &'l [u8]
+    ensures { Readable K.Kind.meaning result.now (last_in K.Kind.meaning (due (run_of program.now.program.now) 0) (shown program.now.program.now).header.number node last.now) }
 {
-    match read::<K>(program, another(node), last) {
-        Ok(sender) => { if sender == node { last } else { &last[0..0] } }
-        Err(_) => &last[0..0],
+    if read::<K>(program.program(), another(node), last) == Ok(node) {
+        last
+    } else {
+        &[]
     }
 }
 
 // Works the run of the program on its inputs: the result, and the length of the tree at the output's front.
 fn run<K: Kind>(x: &Inputs<'_>, values: &mut [K::Value], output: &mut [u8]) -> (K::Value, usize)
-    requires suits { suits_kind K.Kind.meaning (shown x.now.program.now) ≡ true }
+    requires suits { suits K.Kind.meaning (shown x.now.program.now) ≡ true }
     requires values { length values.old ≡ working_values }
     requires output { most_bytes ≤ length output.old }
     ensures { GivesOut K.Kind.meaning x.now result.0 result.1 output.old output.new }
@@ -108,9 +108,9 @@ fn run<K: Kind>(x: &Inputs<'_>, values: &mut [K::Value], output: &mut [u8]) -> (
     (result, out.len)
 }
 
-// The same, of the parts of the inputs.
+// The same, of the parts of the inputs. On its own, since what `load` wrote is known to be bytes where it comes in as a slice.
 fn run_on<'a, K: Kind>(
-    program: &'a Program,
+    program: &'a ProgramFor<'_, K>,
     node: u16,
     slots: &'a Slots,
     bytes: &'a [u8],
@@ -119,13 +119,12 @@ fn run_on<'a, K: Kind>(
     values: &mut [K::Value],
     output: &mut [u8],
 ) -> (K::Value, usize)
-    requires suits { suits_kind K.Kind.meaning (shown program.now) ≡ true }
     requires values { length values.old ≡ working_values }
     requires output { most_bytes ≤ length output.old }
-    ensures { GivesParts K.Kind.meaning program.now node slots.now bytes.now own.now readings.now result.0 result.1 output.old output.new }
+    ensures { GivesParts K.Kind.meaning program.now.program.now node slots.now bytes.now own.now readings.now result.0 result.1 output.old output.new }
 {
     let x = Inputs {
-        program,
+        program: program.program(),
         node,
         slots,
         bytes,
@@ -137,7 +136,7 @@ fn run_on<'a, K: Kind>(
 
 // A round that is not refused.
 fn give<K: Kind, I: Inbox>(
-    program: &Program,
+    program: &ProgramFor<'_, K>,
     node: u16,
     inbox: &I,
     last: &[u8],
@@ -146,15 +145,14 @@ fn give<K: Kind, I: Inbox>(
     bytes: &mut [u8],
     output: &mut [u8],
 ) -> (K::Value, usize)
-    requires suits { suits_kind K.Kind.meaning (shown program.now) ≡ true }
     requires values { working_values ≤ length values.old }
     requires bytes { working_bytes ≤ length bytes.old }
     requires output { most_bytes ≤ length output.old }
-    ensures { GivesRound K.Kind.meaning program.now node (I.Inbox.meaning inbox.now).items last.now readings.now result.0 result.1 output.old output.new }
+    ensures { GivesRound K.Kind.meaning program.now.program.now node (I.Inbox.meaning inbox.now).items last.now readings.now result.0 result.1 output.old output.new }
 {
     let slots = load::<K, I>(program, node, inbox, bytes);
     let own = own_tree::<K>(program, node, last);
-    let cells = &mut values[0..WORKING_VALUES];
+    let cells = &mut values[..WORKING_VALUES];
     run_on::<K>(program, node, &slots, bytes, own, readings, cells, output)
 }
 
@@ -175,12 +173,7 @@ pub fn work_out<K: Kind, I: Inbox>(
     ensures untouched { IfRefused result ((values.new ≡ values.old) × (bytes.new ≡ bytes.old)) }
     ensures fits { IfOk result (λ x. x.1 ≤ most_bytes) }
 {
-    if !suits::<K>(program) {
-        return Err(Refusal {
-            cause: Cause::OtherKind,
-            position: 7,
-        });
-    }
+    let suited = ProgramFor::<K>::of(program)?;
     check_readings::<K>(program.sensors(), readings)?;
     if values.len() < WORKING_VALUES || bytes.len() < WORKING_BYTES {
         return Err(Refusal {
@@ -194,5 +187,5 @@ pub fn work_out<K: Kind, I: Inbox>(
             position: 0,
         });
     }
-    Ok(give::<K, I>(program, node, inbox, last, readings, values, bytes, output))
+    Ok(give::<K, I>(&suited, node, inbox, last, readings, values, bytes, output))
 }

@@ -9,7 +9,7 @@ use Rattle.round.proofs.work_out.give.Goals as goal
 pub returns : goal.returns
 returns g c =
     let k = g.K.Kind.meaning in
-    let p = c.args.program.now in
+    let p = c.args.program.now.program.now in
     let me = c.args.node in
     let contents = g.I.Inbox.meaning c.args.inbox.now in
     record {

@@ -1,20 +1,21 @@
-use Rattle.std.proofs.Common.{ℕ, ap, ◌∙◌, arith}
+use Rattle.std.proofs.Common.{sym, ◌∙◌, arith}
 use Rattle.refusal.specs.Outcomes.{mapped}
 use Rattle.tree.specs.Trees.{tree_in, sender_of}
-use Rattle.round.proofs.Outputs.{own_counts, own_other, own_refused}
+use Rattle.round.proofs.Outputs.{own_true, own_false}
 use Rattle.round.proofs.work_out.own_tree.Goals as goal
 
-pub returns-then-sender-node : goal.returns-then-sender-node
-returns-then-sender-node g c =
+pub returns-then-eq : goal.returns-then-eq
+returns-then-eq g c =
     let k = g.K.Kind.meaning in
-    own_counts k g.met.K.Kind.lawful c.args.program.now c.args.node c.args.last.now (λ i. omega (arith, (c.type_inv.last i).fits)) c.requires c.in-Ok.sender (c.in-Ok.ensures.is ∙ ap (λ (z : ℕ). mapped sender_of (tree_in k c.args.program.now z c.args.last.now)) c.another.ensures) (omega arith)
+    let p = c.args.program.now in
+    let last = c.args.last.now in
+    own_true k g.met.K.Kind.lawful p.program.now c.args.node last (λ i. omega (arith, (c.type_inv.last i).fits)) p.suited _ c.read.result
+    (c.read.ensures.is ∙ (λ j. mapped sender_of (tree_in k (c.program.ensures j) (c.another.ensures j) last))) (sym c.eq.ensures ∙ c.if-eq.true)
 
-pub returns-else-sender-node : goal.returns-else-sender-node
-returns-else-sender-node g c =
+pub returns-else-eq : goal.returns-else-eq
+returns-else-eq g c =
     let k = g.K.Kind.meaning in
-    own_other k g.met.K.Kind.lawful c.args.program.now c.args.node c.args.last.now (λ i. omega (arith, (c.type_inv.last i).fits)) c.requires c.in-Ok.sender (c.in-Ok.ensures.is ∙ ap (λ (z : ℕ). mapped sender_of (tree_in k c.args.program.now z c.args.last.now)) c.another.ensures) c.if-sender-node.false
-
-pub returns-in-Err : goal.returns-in-Err
-returns-in-Err g c =
-    let k = g.K.Kind.meaning in
-    own_refused k g.met.K.Kind.lawful c.args.program.now c.args.node c.args.last.now (λ i. omega (arith, (c.type_inv.last i).fits)) c.requires _ (c.in-Err.ensures.is ∙ ap (λ (z : ℕ). mapped sender_of (tree_in k c.args.program.now z c.args.last.now)) c.another.ensures)
+    let p = c.args.program.now in
+    let last = c.args.last.now in
+    own_false k g.met.K.Kind.lawful p.program.now c.args.node last (λ i. omega (arith, (c.type_inv.last i).fits)) p.suited _ c.read.result
+    (c.read.ensures.is ∙ (λ j. mapped sender_of (tree_in k (c.program.ensures j) (c.another.ensures j) last))) (sym c.eq.ensures ∙ c.if-eq.false)

@@ -41,7 +41,7 @@ bind-work-end-requires g t c κs within =
     let deep = ready.deep_ready k x flags f base d from m r in
     let n = seen c.work-next.new.self c.work-next.new.output in
     let me = c.decreases in
-    (omega arith, (within.0, (within.1, ready.second_ready k x flags f c.with-frame.result base (base + c.work-next.new.self.rows.width) d from c.work-next.result c.work-next.new.self.place m n r c.requires.step refl refl c.with-frame.ensures c.work-next.ensures)))
+    (omega arith, (within.0, (within.1, ready.second_ready k x flags f c.with.result base (base + c.work-next.new.self.rows.width) d from c.work-next.result c.work-next.new.self.place m n r c.requires.step refl refl c.with.ensures c.work-next.ensures)))
 
 pub bind-returns : goal.bind-returns
 bind-returns g t c =
@@ -56,7 +56,7 @@ bind-returns g t c =
     let m = seen c.args.self.now c.args.output.now in
     let n = seen c.work-next.new.self c.work-next.new.output in
     let o = seen c.work-end.new.self c.work-end.new.output in
-    done.bind_done k g.met.K.Kind.lawful x flags f base d from m r c.with-frame.result (base + c.work-next.new.self.rows.width) c.work-next.result c.work-end.result n o c.copy.new.self c.requires.step refl c.with-frame.ensures c.work-next.ensures c.work-end.ensures c.copy.ensures
+    done.bind_done k g.met.K.Kind.lawful x flags f base d from m r c.with.result (base + c.work-next.new.self.rows.width) c.work-next.result c.work-end.result n o c.copy.new.self c.requires.step refl c.with.ensures c.work-next.ensures c.work-end.ensures c.copy.ensures
 
 pub work_parts-returns-then-count-eq0 : goal.work_parts-returns-then-count-eq0
 work_parts-returns-then-count-eq0 g t c =
@@ -69,7 +69,7 @@ work_parts-returns-then-count-eq0 g t c =
     let d = c.args.task.depth in
     let from = c.args.task.at in
     let m = seen c.args.self.now c.args.output.now in
-    done.none_done k g.met.K.Kind.lawful x flags f base d c.args.count from m (omega arith) 
+    done.none_done k g.met.K.Kind.lawful x flags f base d c.args.count from m (omega arith)
 
 pub work_parts-work-next-requires : goal.work_parts-work-next-requires
 work_parts-work-next-requires g t c κs within =
@@ -334,7 +334,7 @@ exchange-work_parts-end-requires g t c κs within =
     let s9 = s.wide in
     let kp = laid_kept c.receive.ensures.laid (omega arith) c.receive.ensures.wide in
     let me = c.decreases in
-    (omega arith, (within.0, (within.1, (ready.sent_ready k x flags f c.with-frame.result base (base + c.receive.new.rows.width) d from c.work-next.result (c.part_count-count.result - 1) c.work-next.new.self.place m n c.receive.new.rows r s c.with-frame.ensures refl kp refl, omega arith))))
+    (omega arith, (within.0, (within.1, (ready.sent_ready k x flags f c.with.result base (base + c.receive.new.rows.width) d from c.work-next.result (c.part_count-count.result - 1) c.work-next.new.self.place m n c.receive.new.rows r s c.with.ensures refl kp refl, omega arith))))
 
 pub exchange-rows_found-found-requires : goal.exchange-rows_found-found-requires
 exchange-rows_found-found-requires g t c =
@@ -448,7 +448,7 @@ exchange-returns g t c =
     let n = seen c.work-next.new.self c.work-next.new.output in
     let cs = ap (λ (z : ℕ). z - 1) c.part_count-count.ensures in
     let o = seen c.work_parts-end.new.self c.work_parts-end.new.output in
-    done.exchange_done k g.met.K.Kind.lawful x flags f base d from m r c.args.e c.with-frame.result (c.part_count-count.result - 1) (base + c.receive.new.rows.width) c.work-next.result c.work_parts-end.result (c.work-next.new.self.place + c.skip_parts-inside.result.1) c.skip_parts-inside.result.1 (c.rows_found-found.result.returned, c.rows_found-found.result.sent) n o c.receive.new.rows c.hand_over.new.rows c.hand_over.new.output c.hand_over.new.cursors c.cell-initial.result c.requires.sends c.requires.step cs c.with-frame.ensures refl refl c.skip_parts-inside.ensures.places c.work-next.ensures c.cell-initial.ensures c.receive.ensures c.work_parts-end.ensures (λ i. (c.rows_found-found.ensures.returned i, c.rows_found-found.ensures.sent i)) c.hand_over.ensures
+    done.exchange_done k g.met.K.Kind.lawful x flags f base d from m r c.args.e c.with.result (c.part_count-count.result - 1) (base + c.receive.new.rows.width) c.work-next.result c.work_parts-end.result (c.work-next.new.self.place + c.skip_parts-inside.result.1) c.skip_parts-inside.result.1 (c.rows_found-found.result.returned, c.rows_found-found.result.sent) n o c.receive.new.rows c.hand_over.new.rows c.hand_over.new.output c.hand_over.new.cursors c.cell-initial.result c.requires.sends c.requires.step cs c.with.ensures refl refl c.skip_parts-inside.ensures.places c.work-next.ensures c.cell-initial.ensures c.receive.ensures c.work_parts-end.ensures (λ i. (c.rows_found-found.ensures.returned i, c.rows_found-found.ensures.sent i)) c.hand_over.ensures
 
 pub branch-work-next-requires : goal.branch-work-next-requires
 branch-work-next-requires g t c κs within =
@@ -465,8 +465,8 @@ branch-work-next-requires g t c κs within =
     let me = c.decreases in
     (omega arith, (within.0, (within.1, ready.first_ready k x flags f base d from m r If tt c.requires.step)))
 
-pub branch-part_ways-still-requires : goal.branch-part_ways-still-requires
-branch-part_ways-still-requires g t c =
+pub branch-part_ways-requires : goal.branch-part_ways-requires
+branch-part_ways-requires g t c =
     let k = g.K.Kind.meaning in
     let x = c.args.scene.now.inputs.now in
     let r = c.requires.ready in
@@ -517,7 +517,7 @@ branch-work-second-requires g t c κs within =
     let deep = ready.deep_ready k x flags f base d from m r in
     let n = seen c.work-next.new.self c.work-next.new.output in
     let me = c.decreases in
-    (omega arith, (within.0, (within.1, ready.yes_ready k x flags c.part_ways-still.result f base d from c.work-next.result (c.work-next.new.self.place + 1) m n c.part_ways-still.new.output c.part_ways-still.new.cursors c.truth-first.result r c.requires.step c.work-next.ensures c.part_ways-still.ensures refl)))
+    (omega arith, (within.0, (within.1, ready.yes_ready k x flags c.part_ways.result f base d from c.work-next.result (c.work-next.new.self.place + 1) m n c.part_ways.new.output c.part_ways.new.cursors c.truth-first.result r c.requires.step c.work-next.ensures c.part_ways.ensures refl)))
 
 pub branch-skip-end-requires : goal.branch-skip-end-requires
 branch-skip-end-requires g t c =
@@ -617,7 +617,7 @@ branch-work-requires g t c κs within =
     let deep = ready.deep_ready k x flags f base d from m r in
     let n = seen c.work-next.new.self c.work-next.new.output in
     let me = c.decreases in
-    (omega arith, (within.0, (within.1, ready.no_ready k x flags c.part_ways-still.result f base d from c.work-next.result c.skip-second.result.0 c.skip-second.result.1 (c.work-next.new.self.place + 1 + c.skip-second.result.1) m n c.part_ways-still.new.output c.part_ways-still.new.cursors c.truth-first.result r c.requires.step c.work-next.ensures c.part_ways-still.ensures c.skip-second.ensures.end c.skip-second.ensures.places refl)))
+    (omega arith, (within.0, (within.1, ready.no_ready k x flags c.part_ways.result f base d from c.work-next.result c.skip-second.result.0 c.skip-second.result.1 (c.work-next.new.self.place + 1 + c.skip-second.result.1) m n c.part_ways.new.output c.part_ways.new.cursors c.truth-first.result r c.requires.step c.work-next.ensures c.part_ways.ensures c.skip-second.ensures.end c.skip-second.ensures.places refl)))
 
 pub branch-returns-then-first : goal.branch-returns-then-first
 branch-returns-then-first g t c =
@@ -632,7 +632,7 @@ branch-returns-then-first g t c =
     let m = seen c.args.self.now c.args.output.now in
     let n = seen c.work-next.new.self c.work-next.new.output in
     let o = seen c.work-second.new.self c.work-second.new.output in
-    done.yes_done k g.met.K.Kind.lawful x flags f base d from m r c.part_ways-still.result n o c.part_ways-still.new.output c.part_ways-still.new.cursors c.work-next.result c.work-second.result c.skip-end.result.0 c.skip-end.result.1 c.cell.result c.truth-first.result c.requires.step c.work-next.ensures c.cell.ensures c.truth-first.ensures c.if-first.true c.part_ways-still.ensures c.work-second.ensures c.skip-end.ensures.end c.skip-end.ensures.places
+    done.yes_done k g.met.K.Kind.lawful x flags f base d from m r c.part_ways.result n o c.part_ways.new.output c.part_ways.new.cursors c.work-next.result c.work-second.result c.skip-end.result.0 c.skip-end.result.1 c.cell.result c.truth-first.result c.requires.step c.work-next.ensures c.cell.ensures c.truth-first.ensures c.if-first.true c.part_ways.ensures c.work-second.ensures c.skip-end.ensures.end c.skip-end.ensures.places
 
 pub branch-returns-else-first : goal.branch-returns-else-first
 branch-returns-else-first g t c =
@@ -647,7 +647,7 @@ branch-returns-else-first g t c =
     let m = seen c.args.self.now c.args.output.now in
     let n = seen c.work-next.new.self c.work-next.new.output in
     let o = seen c.work.new.self c.work.new.output in
-    done.no_done k g.met.K.Kind.lawful x flags f base d from m r c.part_ways-still.result n o c.part_ways-still.new.output c.part_ways-still.new.cursors c.work-next.result c.skip-second.result.0 c.work.result c.skip-second.result.1 c.cell.result c.truth-first.result c.requires.step c.work-next.ensures c.cell.ensures c.truth-first.ensures c.if-first.false c.part_ways-still.ensures c.skip-second.ensures.end c.skip-second.ensures.places c.work.ensures
+    done.no_done k g.met.K.Kind.lawful x flags f base d from m r c.part_ways.result n o c.part_ways.new.output c.part_ways.new.cursors c.work-next.result c.skip-second.result.0 c.work.result c.skip-second.result.1 c.cell.result c.truth-first.result c.requires.step c.work-next.ensures c.cell.ensures c.truth-first.ensures c.if-first.false c.part_ways.ensures c.skip-second.ensures.end c.skip-second.ensures.places c.work.ensures
 
 pub work-returns-in_default : goal.work-returns-in_default
 work-returns-in_default g t c =
@@ -661,7 +661,7 @@ work-returns-in_default g t c =
     let from = c.args.task.at in
     let m = seen c.args.self.now c.args.output.now in
     let deep = ready.deep_ready k x flags f base d from m r in
-    done.blank_done k g.met.K.Kind.lawful x flags f base d from m r c.link_row.new.rows (sym c.in_default.ensures) c.link_row.ensures deep 
+    done.blank_done k g.met.K.Kind.lawful x flags f base d from m r c.link_row.new.rows (sym c.in_default.ensures) c.link_row.ensures deep
 
 pub work-returns-in-Literal : goal.work-returns-in-Literal
 work-returns-in-Literal g t c =
