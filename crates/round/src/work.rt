@@ -14,7 +14,7 @@ use program::expression::Expression;
 use record::output::Output;
 use steps::finish::finish;
 use steps::frame::Frame;
-use steps::hand_over::{Found, hand_over};
+use steps::hand_over::hand_over;
 use steps::leaf::leaf;
 use steps::part_ways::part_ways;
 use unfolding::skip::{skip, skip_parts};
@@ -248,18 +248,13 @@ impl<'m, V: Copy> Worker<'m, V> {
 }
 
 // The rows of what is returned and of what is sent.
-fn rows_found(e: Expression, top: usize, width: usize) -> Found
+fn rows_found(e: Expression, top: usize, width: usize) -> (usize, usize)
     requires { top + width < 65536 }
-    ensures returned { result.returned ≡ (outcome_rows e top width).0 }
-    ensures sent { result.sent ≡ (outcome_rows e top width).1 }
+    ensures { result ≡ outcome_rows e top width }
 {
-    let sent = match e {
-        Expression::Exchange => top + width,
-        _ => top,
-    };
-    Found {
-        returned: top,
-        sent,
+    match e {
+        Expression::Exchange => (top, top + width),
+        _ => (top, top),
     }
 }
 

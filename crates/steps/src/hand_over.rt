@@ -10,20 +10,14 @@ use record::output::Output;
 use row_stack::row_stack::RowStack;
 use sending::sent::put_sent;
 
-/// Where the rows of what is returned and of what is sent begin.
-#[derive(Clone, Copy)]
-pub struct Found {
-    pub returned: usize,
-    pub sent: usize,
-}
-
 /// Hands over the outcome of an exchange: puts the record of the row that is sent, moves the cursors past its place, and
-/// lays the row that is returned at `base`. An inner function: the rows are there, and there is room for the record.
+/// lays the row that is returned at `base`. `found` are the rows of what is returned and of what is sent. An inner
+/// function: the rows are there, and there is room for the record.
 pub fn hand_over<K: Kind>(
     x: &Inputs<'_>,
     place: usize,
     base: usize,
-    found: Found,
+    found: (usize, usize),
     rows: &mut RowStack<'_, K::Value>,
     output: &mut Output<'_>,
     cursors: &mut Cursors,
@@ -31,13 +25,14 @@ pub fn hand_over<K: Kind>(
     requires small { place < 65535 }
     requires wide { rows.old.width ≡ 2 + x.now.slots.now.count }
     requires base { base + rows.old.width ≤ length rows.old.cells.now }
-    requires returned { found.returned + rows.old.width ≤ length rows.old.cells.now }
-    requires sent { found.sent + rows.old.width ≤ length rows.old.cells.now }
+    requires returned { found.0 + rows.old.width ≤ length rows.old.cells.now }
+    requires sent { found.1 + rows.old.width ≤ length rows.old.cells.now }
     requires room { output.old.len + record_weight K.Kind.meaning.width ≤ length output.old.bytes.now }
-    ensures { Handed K.Kind.meaning x.now place base found.returned found.sent rows.old rows.new output.old output.new cursors.old cursors.new }
+    ensures { Handed K.Kind.meaning x.now place base found.0 found.1 rows.old rows.new output.old output.new cursors.old cursors.new }
 {
+    let (returned, sent) = found;
     let numbers = &x.slots.numbers[..x.slots.count];
-    put_sent::<K>(output, rows, found.sent, place, x.node, numbers);
+    put_sent::<K>(output, rows, sent, place, x.node, numbers);
     advance::<K>(x, cursors, place + 1);
-    rows.copy(found.returned, base);
+    rows.copy(returned, base);
 }

@@ -10,6 +10,6 @@ returns g c =
       bytes = put.bytes;
       wrote = put.puts;
       light = put.light;
-      means = λ given f gives row. put_means g.K.Kind.meaning c.args.x.now given gives f c.args.place (row_at c.args.rows.now c.args.found.sent) put row;
+      means = λ given f gives row. put_means g.K.Kind.meaning c.args.x.now given gives f c.args.place (row_at c.args.rows.now c.args.found.1) put row;
       stands = λ given low gives stands le. c.advance.ensures given low gives stands le;
     }

@@ -404,8 +404,8 @@ exchange-hand_over-requires g t c =
     let f0 = outcome_low c.args.e (base + c.receive.new.rows.width) c.work_parts-end.new.self.rows.width in
     let f0a = f0.0 in
     let f0b = f0.1 in
-    let fd0 = c.rows_found-found.ensures.returned in
-    let fd1 = c.rows_found-found.ensures.sent in
+    let fd0 = ap (λ (p : ℕ × ℕ). p.0) c.rows_found-found.ensures in
+    let fd1 = ap (λ (p : ℕ × ℕ). p.1) c.rows_found-found.ensures in
     record { small = omega arith; wide = omega arith; base = omega arith; returned = omega arith; sent = omega arith; room = omega arith }
 
 pub exchange-overflow_add-self : goal.exchange-overflow_add-self
@@ -448,7 +448,7 @@ exchange-returns g t c =
     let n = seen c.work-next.new.self c.work-next.new.output in
     let cs = ap (λ (z : ℕ). z - 1) c.part_count-count.ensures in
     let o = seen c.work_parts-end.new.self c.work_parts-end.new.output in
-    done.exchange_done k g.met.K.Kind.lawful x flags f base d from m r c.args.e c.with.result (c.part_count-count.result - 1) (base + c.receive.new.rows.width) c.work-next.result c.work_parts-end.result (c.work-next.new.self.place + c.skip_parts-inside.result.1) c.skip_parts-inside.result.1 (c.rows_found-found.result.returned, c.rows_found-found.result.sent) n o c.receive.new.rows c.hand_over.new.rows c.hand_over.new.output c.hand_over.new.cursors c.cell-initial.result c.requires.sends c.requires.step cs c.with.ensures refl refl c.skip_parts-inside.ensures.places c.work-next.ensures c.cell-initial.ensures c.receive.ensures c.work_parts-end.ensures (λ i. (c.rows_found-found.ensures.returned i, c.rows_found-found.ensures.sent i)) c.hand_over.ensures
+    done.exchange_done k g.met.K.Kind.lawful x flags f base d from m r c.args.e c.with.result (c.part_count-count.result - 1) (base + c.receive.new.rows.width) c.work-next.result c.work_parts-end.result (c.work-next.new.self.place + c.skip_parts-inside.result.1) c.skip_parts-inside.result.1 c.rows_found-found.result n o c.receive.new.rows c.hand_over.new.rows c.hand_over.new.output c.hand_over.new.cursors c.cell-initial.result c.requires.sends c.requires.step cs c.with.ensures refl refl c.skip_parts-inside.ensures.places c.work-next.ensures c.cell-initial.ensures c.receive.ensures c.work_parts-end.ensures c.rows_found-found.ensures c.hand_over.ensures
 
 pub branch-work-next-requires : goal.branch-work-next-requires
 branch-work-next-requires g t c κs within =

@@ -6,7 +6,7 @@ use Rattle.program.specs.Programs.{shown}
 use Rattle.unfolding.specs.Unfolding.{listed}
 use Rattle.unfolding.specs.Walks.{rows, unfolded_in}
 use Rattle.unfolding.proofs.Near.{split}
-use Rattle.unfolding.proofs.Programs.{known_in, near_in, body_start, body_is}
+use Rattle.unfolding.proofs.Programs.{known_in, near_in, start_small, body_start, body_is}
 use Rattle.tree.specs.Walks.{Stand, stand, finished}
 use Rattle.tree.proofs.Branches.{condition, chosen, other, other_behind}
 use Rattle.tree.proofs.Passing as passing
@@ -173,3 +173,6 @@ walk_parts-walk_parts-requires g t c κs within =
     let h = near_in p c.args.depth from.at c.requires.near in
     let l = ap (λ z. places_all (listed read (c.args.count - 1) z).0) q.0 in
     (omega arith, (within.0, (within.1, (omega arith, (omega arith, c.in_ok-next.ensures.within)))))
+
+pub walk-parts_start-at-requires : goal.walk-parts_start-at-requires
+walk-parts_start-at-requires g t c = start_small c.args.self.now.program.now c.args.from.at c.in-Some.e c.width.result c.requires.near c.in-Some.ensures c.width.ensures.is
