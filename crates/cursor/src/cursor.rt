@@ -36,6 +36,7 @@ pub fn seek<K: Kind>(tree: &[u8], from: usize, place: usize) -> usize
     ensures stops { IfSome (head_at tree.now result) (λ x. place ≤ x.0) }
 {
     let mut at = from;
+    // Each record says where the next begins; an iterator of our own would only wrap `head`.
     while let Some((found, end)) = head(tree, at) {
         if found >= place {
             break;

@@ -25,6 +25,7 @@ pub(crate) struct Walk<'a> {
 }
 
 // Where a walk stands: at a byte of the program's block, at a place, and at a position of the message.
+// That it is near that block and inside that message stands in the methods: it says how a stand fits a walk.
 #[derive(Clone, Copy)]
 pub(crate) struct Stand {
     pub at: usize,
