@@ -4,6 +4,7 @@ use Rattle.program.specs.declared.function.Function.{Function}
 use Rattle.program.specs.Measures.{places}
 use Rattle.unfolding.specs.Unfolding.{start}
 use Rattle.unfolding.specs.Walks.{unfolded_in}
+use Rattle.unfolding.proofs.Programs.{start_small}
 use Rattle.round.specs.Machines.{seen}
 use Rattle.round.proofs.Rowing.{row_after_most}
 use Rattle.round.proofs.Stacks.{laid_kept}
@@ -675,3 +676,6 @@ work-returns-in-Literal g t c =
     let from = c.args.task.at in
     let m = seen c.args.self.now c.args.output.now in
     done.leaf_done k g.met.K.Kind.lawful x flags f base d from m r c.in-Some.e c.leaf.new.rows c.parts_start.result (done.is_leaf c.in-Some.e c.in-Literal.is) c.in-Some.ensures c.leaf.ensures (c.parts_start.ensures ∙ ap (λ (v : ℕ). start v from c.in-Some.e) c.width.ensures.is)
+
+pub work-parts_start-requires : goal.work-parts_start-requires
+work-parts_start-requires g t c = start_small c.args.scene.now.inputs.now.program.now c.args.task.at c.in-Some.e c.width.result c.requires.ready.near c.in-Some.ensures c.width.ensures.is
