@@ -1,6 +1,6 @@
 -- Readings, the last own tree, and what stands on the output in the end.
 use Rattle.std.specs.Result.{result_eq}
-use Rattle.std.proofs.Common.{eqb-true, ◌≡◌, ℕ, zero, suc, ◌+◌, ◌-◌, ◌*◌, ◌<◌, ◌≤◌, Bool, true, false, cond, eqb, ◌≢◌, List, [], ◌∷◌, ◌++◌, length, get_or, take, drop, is_some, Some, None, Ok, Err, Option, unwrap_or, sym, refl, ap, ◌∙◌, subst, suc-mul, add-mul, one-mul, zero-mul, arith, length-append, length-drop, take-append-drop, length-take, drop-drop, drop_at, eq-eqb, ne_eqb}
+use Rattle.std.proofs.Common.{eqb-true, take_at, lt_of_mul-lt-mul_right, ◌≡◌, ℕ, zero, suc, ◌+◌, ◌-◌, ◌*◌, ◌<◌, ◌≤◌, Bool, true, false, cond, eqb, ◌≢◌, List, [], ◌∷◌, ◌++◌, length, get_or, take, drop, is_some, Some, None, Ok, Err, Option, unwrap_or, sym, refl, ap, ◌∙◌, subst, suc-mul, add-mul, one-mul, zero-mul, arith, length-append, length-drop, take-append-drop, length-take, drop-drop, drop_at, eq-eqb, ne_eqb}
 use Rattle.std.proofs.lemmas.Bool.Decides.{nat_tests}
 use Rattle.refusal.specs.Outcomes.{Outcome, refusal, refuse, after, must, mapped}
 use Rattle.refusal.specs.declared.cause.Cause.TheVariants as cause
@@ -47,35 +47,63 @@ module _ {V : Type 0} (k : Meaning V) (bs : List ℕ) where
       ∙ judged_more v (readings_from k n (at + k.width) bs)
       ∙ ap (λ (z : ℕ). judged (readings_from k z (at + k.width) bs)) p
 
-  -- THE LOOP over the readings: s of them, of which n were looked at
-  module _ (s n at w : ℕ) (o : Option V) (long : length bs ≡ s * k.width) (lt : n < s) (same : judged (readings_from k s 0 bs) ≡ judged (readings_from k (s - n) at bs))
-      (there : at + (s - n) * k.width ≡ length bs) (is : o ≡ k.read (part bs at (at + w - at))) (wide : w ≡ k.width) where
-    pub reading_there : at + w ≤ length bs
-    reading_there = let m = step_mul (s - n) k.width (omega arith) in omega arith
+  -- THE READINGS, chunk by chunk: i of s were looked at, and `rest` is left
+  module _ (s i : ℕ) (rest : List ℕ) (wide : 1 ≤ k.width) (long : length bs ≡ s * k.width) (cut : drop (i * k.width) bs ≡ rest) (left : i * k.width + length rest ≡ length bs)
+      (same : judged (readings_from k s 0 bs) ≡ judged (readings_from k (s - i) (i * k.width) bs)) where
+    counted : judged (readings_in k s bs) ≡ judged (readings_from k (s - i) (i * k.width) bs)
+    counted = ap (λ (b : Bool). judged (after (must b cause.ReadingsRefused 0) (λ _. readings_from k s 0 bs))) (eq-eqb (length bs) (s * k.width) long) ∙ same
 
-    cell_is : o ≡ k.read (part bs at k.width)
-    cell_is = let e : at + w - at ≡ k.width = omega arith in is ∙ ap (λ (z : ℕ). k.read (part bs at z)) e
+    pub all_passed : length rest < k.width → Ok tt ≡ judged (readings_in k s bs)
+    all_passed short =
+        let n : (i + 1) * k.width ≡ i * k.width + k.width = add-mul i 1 k.width ∙ ap (λ (z : ℕ). i * k.width + z) (one-mul k.width) in
+        let h : s < i + 1 = lt_of_mul-lt-mul_right k.width (omega arith) in
+        let none : s - i ≡ 0 = omega arith in
+        sym (counted ∙ ap (λ (z : ℕ). judged (readings_from k z (i * k.width) bs)) none)
 
-    pub loop_refused : is_some o ≡ false → Err (refusal cause.ReadingsRefused at) ≡ judged (readings_in k s bs)
-    loop_refused h =
-        let e : eqb (length bs) (s * k.width) ≡ true = eq-eqb (length bs) (s * k.width) long in
-        sym (ap (λ (b : Bool). judged (after (must b cause.ReadingsRefused 0) (λ _. readings_from k s 0 bs))) e
-        ∙ same ∙ ap judged (reading_refused (s - n) at (omega arith) (sym cell_is ∙ no_value o h)))
-      where
-        no_value : (q : Option V) → is_some q ≡ false → q ≡ None
-        no_value None h = refl
-        no_value (Some v) h = let z : ◌≡◌ {A = ℕ} 0 1 = cc in absurd (omega arith)
+    -- the next is e
+    module _ (e more : List ℕ) (split : rest ≡ e ++ more) (one : length e ≡ k.width) where
+      inside : i * k.width + (k.width + length more) ≡ length bs
+      inside = let a = ap length split ∙ length-append e more in omega arith
 
-    pub loop_passed : is_some o ≡ true → (at + w + (s - (n + 1)) * k.width ≡ length bs) × (judged (readings_from k s 0 bs) ≡ judged (readings_from k (s - (n + 1)) (at + w) bs))
-    loop_passed h =
-        let m = step_mul (s - n) k.width (omega arith) in
-        let e : s - n - 1 ≡ s - (n + 1) = omega arith in
-        let q = ap (λ (z : ℕ). z * k.width) e in
-        (omega arith, same ∙ go o cell_is h ∙ (λ i. judged (readings_from k (e i) (at + sym wide i) bs)))
-      where
-        go : (q : Option V) → q ≡ k.read (part bs at k.width) → is_some q ≡ true → judged (readings_from k (s - n) at bs) ≡ judged (readings_from k (s - n - 1) (at + k.width) bs)
-        go None e h = let z : ◌≡◌ {A = ℕ} 0 1 = cc in absurd (omega arith)
-        go (Some v) e h = reading_passed (s - n) at v (omega arith) (sym e)
+      pub next_fits : i * length e + length e ≤ length bs
+      next_fits = let a = inside in let b = ap (λ (z : ℕ). i * z) one in omega arith
+
+      here : i < s
+      here = let a = inside in lt_of_mul-lt-mul_right k.width (omega arith)
+
+      chunk_is : part bs (i * k.width) k.width ≡ e
+      chunk_is = ap (take k.width) (cut ∙ split) ∙ take_at e more k.width one
+
+      pub chunk_refused : (o : Option V) → o ≡ k.read e → is_some o ≡ false → Err (refusal cause.ReadingsRefused (i * length e)) ≡ judged (readings_in k s bs)
+      chunk_refused o is h =
+          let lt = here in
+          sym (counted ∙ ap judged (reading_refused (s - i) (i * k.width) (omega arith) (ap k.read chunk_is ∙ sym is ∙ no_value o h))
+          ∙ ap (λ (z : ℕ). Err (refusal cause.ReadingsRefused (i * z))) (sym one))
+        where
+          no_value : (q : Option V) → is_some q ≡ false → q ≡ None
+          no_value None h = refl
+          no_value (Some v) h = let z : ◌≡◌ {A = ℕ} 0 1 = cc in absurd (omega arith)
+
+      pub chunk_passed : (o : Option V) → o ≡ k.read e → is_some o ≡ true → judged (readings_from k s 0 bs) ≡ judged (readings_from k (s - (i + 1)) ((i + 1) * k.width) bs)
+      chunk_passed o is h =
+          let a : i * k.width + k.width ≡ (i + 1) * k.width = sym (add-mul i 1 k.width ∙ ap (λ (z : ℕ). i * k.width + z) (one-mul k.width)) in
+          let b : s - i - 1 ≡ s - (i + 1) = omega arith in
+          same ∙ go o (is ∙ ap k.read (sym chunk_is)) h ∙ (λ j. judged (readings_from k (b j) (a j) bs))
+        where
+          go : (q : Option V) → q ≡ k.read (part bs (i * k.width) k.width) → is_some q ≡ true → judged (readings_from k (s - i) (i * k.width) bs) ≡ judged (readings_from k (s - i - 1) (i * k.width + k.width) bs)
+          go None e h = let z : ◌≡◌ {A = ℕ} 0 1 = cc in absurd (omega arith)
+          go (Some v) e h = let lt = here in reading_passed (s - i) (i * k.width) v (omega arith) (sym e)
+
+      pub chunk_cut : drop ((i + 1) * k.width) bs ≡ more
+      chunk_cut =
+          let a : (i + 1) * k.width ≡ i * k.width + k.width = add-mul i 1 k.width ∙ ap (λ (z : ℕ). i * k.width + z) (one-mul k.width) in
+          ap (λ (z : ℕ). drop z bs) a ∙ sym (drop-drop k.width (i * k.width) bs) ∙ ap (drop k.width) (cut ∙ split) ∙ drop_at e more k.width one
+
+      pub chunk_left : (i + 1) * k.width + length more ≡ length bs
+      chunk_left =
+          let a : (i + 1) * k.width ≡ i * k.width + k.width = add-mul i 1 k.width ∙ ap (λ (z : ℕ). i * k.width + z) (one-mul k.width) in
+          let b = inside in
+          omega arith
 
   module _ (lawful : Lawful k) where
     -- fewer bytes than the width are no value

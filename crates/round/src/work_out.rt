@@ -39,22 +39,19 @@ pub const WORKING_BYTES: usize = 36864;
 fn check_readings<K: Kind>(sensors: u8, readings: &[u8]) -> Result<(), Refusal>
     ensures { result ≡ mapped (λ _. tt) (readings_in K.Kind.meaning sensors readings.now) }
 {
-    let width = K::WIDTH;
-    if readings.len() != sensors as usize * width {
+    if readings.len() != sensors as usize * K::WIDTH {
         return Err(Refusal {
             cause: Cause::ReadingsRefused,
             position: 0,
         });
     }
-    let mut at = 0;
-    for _ in 0..sensors {
-        if K::read(&readings[at..at + width]).is_none() {
+    for (i, reading) in readings.chunks_exact(K::WIDTH).enumerate() {
+        if K::read(reading).is_none() {
             return Err(Refusal {
                 cause: Cause::ReadingsRefused,
-                position: at,
+                position: i * reading.len(),
             });
         }
-        at += width;
     }
     Ok(())
 }
