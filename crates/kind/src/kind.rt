@@ -41,6 +41,7 @@ pub trait Kind {
         ensures { result ≡ meaning.truth v };
 
     /// The operator of that number on two values. Every number has an answer; a program names only those below `OPERATORS`.
+    // By number, and no enum: each kind has operators of its own, and a program names one by a byte.
     fn apply(operator: u8, a: Self::Value, b: Self::Value) -> Self::Value
         ensures { result ≡ meaning.apply operator a b };
 

@@ -68,7 +68,6 @@ impl Kind for LabelSets {
     }
 
     fn write(v: LabelSet, out: &mut [u8]) {
-        let bytes = v.to_be_bytes();
-        out[0..8].copy_from_slice(&bytes);
+        out[..Self::WIDTH].copy_from_slice(&v.to_be_bytes());
     }
 }

@@ -73,7 +73,6 @@ impl Kind for Numbers {
     }
 
     fn write(v: Number, out: &mut [u8]) {
-        let bytes = v.to_be_bytes();
-        out[0..4].copy_from_slice(&bytes);
+        out[..Self::WIDTH].copy_from_slice(&v.to_be_bytes());
     }
 }
