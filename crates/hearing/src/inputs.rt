@@ -9,6 +9,7 @@ pub struct Inputs<'a> {
     pub node: u16,
     pub slots: &'a Slots,
     pub bytes: &'a [u8],
+    // No bytes, and no `Option`: a tree of no bytes says nothing at any place.
     pub own: &'a [u8],
     pub readings: &'a [u8],
 }

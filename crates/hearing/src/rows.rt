@@ -9,6 +9,9 @@ use held::part::part;
 use kind::kind::Kind;
 use row_stack::row_stack::RowStack;
 
+// What rows have to be is asked at each call: they are a view of lent cells, which no invariant ties to the inputs. What a
+// round hears with comes apart, since a round lends each of these from another struct of its own.
+
 // Lays a row: the value elsewhere, that at the own number, and the one that `sender` gives for each slot.
 fn lay<V: Copy, F: Fn(usize) -> V>(
     rows: &mut RowStack<'_, V>,

@@ -43,7 +43,7 @@ pub fn load<K: Kind, I: Inbox>(
     ensures { Loaded K.Kind.meaning program.now.program.now node bytes.new result (held_in K.Kind.meaning (due (run_of program.now.program.now) 0) (shown program.now.program.now).header.number node (I.Inbox.meaning inbox.now).items) }
 {
     let mut slots = Slots::empty();
-    // By numbers: an inbox tells the next sender from a number on, and has no iterator.
+    // By numbers: the calls of an inbox are given, and none of them hands out an iterator.
     let mut from = 0;
     while let Some(sender) = inbox.next(from) {
         let start = slots.count * LONGEST_ITEM;

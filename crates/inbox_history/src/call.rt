@@ -23,6 +23,8 @@ pub enum Answer {
     Length(Option<usize>),
 }
 
+// Two conversions: a put and a read answer different things, and are refused alike.
+
 impl From<Result<(), Refusal>> for Answer {
     ghost from_gives = { λ put answer. MatchResult put (λ _. answer ≡ Done) (λ refusal. answer ≡ Refused refusal) };
 

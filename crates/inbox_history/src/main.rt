@@ -26,6 +26,8 @@ const ROOM: usize = SENDERS * LONGEST_ITEM;
 
 const SMALL_ROOM: usize = 1500;
 
+// Two runs and no generic one: each makes inboxes of its own types, over memory of its own.
+
 // A slot inbox and a packed inbox of the same limits.
 fn slot_and_packed(limits: Limits) -> counts::Counts {
     let mut memory = [170; ROOM];

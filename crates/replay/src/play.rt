@@ -23,7 +23,8 @@ use std::io;
 use thiserror::Error;
 use tree::message;
 
-// The inbox of a script: none before it asks for one.
+// The inbox of a script: none before it asks for one. With a case for that: an `Option` of a type that holds lent memory
+// is not covered as a type argument.
 #[derive(Drop)]
 enum Made<'m> {
     None,
@@ -63,6 +64,7 @@ impl From<LineError> for PlayError {
 }
 
 // A block is checked for the kind that its byte 7 names.
+// The same cases stand in the function below: no closure is generic in the kind.
 fn check_block(block: &[u8]) -> Result<Program, Refusal>
     ensures { mapped shown result ≡ (if nat_eq (slice_index block.now 7) 2 then verdict label_sets block.now else verdict meaning_of_numbers block.now) }
 {
@@ -228,6 +230,7 @@ impl<'a> Session<'a> {
         requires ends { IsFinite (L.remaining lines.old) }
         ensures { IfOk result (λ asked. OnSome asked (IsNearerEnd L.can_next L.remaining lines.old lines.new)) }
     {
+        // No `for`: after one over a reference a proof does not know what is left of the lines.
         while let Some(text) = lines.next() {
             let asked = self.play_line(made, text)?;
             if asked.is_some() {

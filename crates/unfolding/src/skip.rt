@@ -8,8 +8,8 @@ use crate::step::{count_parts, expression_at, parts_start, places_own};
 use program::expression::Expression;
 use program::program::Program;
 
-// Position, depth and the two answers stay apart: a walk has them in its own state, and would make a struct of them anew
-// at each call.
+// What is asked is of position, depth and program together, so no type of one of them says it. The two answers are taken
+// apart at once.
 
 /// Where the expression at `at` ends, and how many places it has, down to a depth.
 #[cycle(skip_skip_called_skip_parts)]

@@ -5,6 +5,7 @@ ghost use Rattle.hearing.specs.Cells.{link_of};
 use super::Inputs;
 use kind::kind::Kind;
 
+// A slot is named by its index below the count, as an element of a slice is.
 impl Inputs<'_> {
     // The tree of the sender in slot `j`.
     pub(crate) fn tree<K: Kind>(&self, j: usize) -> &[u8]

@@ -7,7 +7,7 @@ use inbox::limits::LONGEST_ITEM;
 
 // A slot is named by its index below the count, as an element of a slice is.
 impl Slots {
-    // No slot is taken.
+    // No slot is taken. By name, and no `Default`: it is where loading starts, and stands in for nothing.
     pub(crate) fn empty() -> Slots
         ensures { result.count ≡ 0 }
     {
