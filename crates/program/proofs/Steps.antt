@@ -1,7 +1,8 @@
 -- Sizing by the bytes, without the tree: what the code computes is what the tree has. Assumes nothing.
-use Rattle.std.proofs.Common.{◌≡◌, ℕ, zero, suc, ◌+◌, ◌-◌, ◌<◌, ◌≤◌, Bool, true, false, List, [], map, length, get_or, take, drop, Ok, Err, sym, refl, ap, ◌∙◌, subst, sub-one, arith, length-drop}
+use Rattle.std.proofs.Common.{◌≡◌, ℕ, zero, suc, ◌+◌, ◌-◌, ◌<◌, ◌≤◌, Bool, true, false, not, List, [], map, length, get_or, take, drop, Ok, Err, sym, refl, ap, ◌∙◌, subst, sub-one, arith, length-drop}
 use lib.ListN.{get_or-map, length-map}
-use Rattle.std.proofs.lemmas.List.{drop_all, take_all}
+use Rattle.std.proofs.lemmas.List.{drop_all, take_all, take-take, length-take}
+use Rattle.std.proofs.lemmas.Slice.{between_is}
 use Rattle.refusal.specs.declared.refused.Refusal.{Refusal}
 use Rattle.program.specs.declared.shape.KindShape.{KindShape}
 use Rattle.program.specs.declared.sizes.Sizes.{Sizes}
@@ -15,7 +16,7 @@ use Rattle.refusal.proofs.Outcomes.{after_same, mapped_after}
 use Rattle.program.specs.Expressions.{Expr, Exprs, Unfolded}
 use Rattle.program.specs.Measures.{sizes_of, size_all, depth_all, weight_all, places_all}
 use Rattle.program.specs.Reading.{decoded, readable, available, part_count, binds, callee, Parts, arguments, built, no_function, parts, called_function, expr_by, expr}
-use Rattle.program.specs.Sizing.{row, with_part, no_sums, combined, totals, sized, summed, part_sums}
+use Rattle.program.specs.Sizing.{row, with_part, no_sums, combined, totals, sized, summed, part_sums, flagged, Marked}
 
 -- the sums of a call's arguments are those of the unfolded expressions
 record Summed (w : ℕ) (es : Exprs) (s : Sums) : Type 0 where
@@ -142,7 +143,7 @@ module _ (w : ℕ) (fs : List Unfolded) (found : Function) where
   called_same Choose h = record { count = refl; body = λ s. refl }
 
 -- the ways through the sizing of an expression
-module _ (refuses : List ℕ → Bool) (k : KindShape) (sensors : ℕ) (table : List Function) (part : List ℕ) (fs : List Unfolded) (tab : table ≡ map (row k.width) fs) (fuel at scope : ℕ) (enough : length part ≤ fuel + at) where
+module _ (refuses : List ℕ → Bool) (flags : List Bool) (k : KindShape) (sensors : ℕ) (table : List Function) (part : List ℕ) (fs : List Unfolded) (marked : Marked refuses k.width part flags) (tab : table ≡ map (row k.width) fs) (fuel at scope : ℕ) (enough : length part ≤ fuel + at) where
   as_many : length table ≡ length fs
   as_many = ap length tab ∙ length-map fs (row k.width)
 
@@ -158,19 +159,35 @@ module _ (refuses : List ℕ → Bool) (k : KindShape) (sensors : ℕ) (table : 
       let e : decoded k.width (drop at part) at ≡ Err x = sym (rw whole at d) in
       sym (sizes_enough refuses k sensors fs part fuel at scope enough ∙ rw e)
 
-  pub by_literal : (e : Expression) (next : ℕ) → Ok (e, next) ≡ decoded k.width tail at → false ≡ readable refuses k.width part e →
+  -- a flag is what the kind says of the literal
+  flag : (e : Expression) → ((o : ℕ) → e ≡ Literal o → o + k.width ≤ length part) → (r : Bool) → r ≡ flagged flags e → readable refuses k.width part e ≡ not r
+  flag (Literal o) h r q = ap not (sym (q ∙ marked o (h o refl)))
+  flag (Variable n) h r q = ap not (sym q)
+  flag Let h r q = ap not (sym q)
+  flag (Operator n) h r q = ap not (sym q)
+  flag (Fold n) h r q = ap not (sym q)
+  flag Exchange h r q = ap not (sym q)
+  flag Share h r q = ap not (sym q)
+  flag If h r q = ap not (sym q)
+  flag (Call n) h r q = ap not (sym q)
+  flag (Sensor n) h r q = ap not (sym q)
+  flag Link h r q = ap not (sym q)
+  flag Own h r q = ap not (sym q)
+  flag Choose h r q = ap not (sym q)
+
+  pub by_literal : (e : Expression) (next : ℕ) → Ok (e, next) ≡ decoded k.width tail at → ((o : ℕ) → e ≡ Literal o → o + k.width ≤ length part) → true ≡ flagged flags e →
       refuse cause.LiteralRefused (at + 1) ≡ sized k.width (expr refuses k sensors fs part fuel at scope)
-  by_literal e next d q =
+  by_literal e next d l q =
       let o : decoded k.width (drop at part) at ≡ Ok (e, next) = sym (rw whole at d) in
-      let v : readable refuses k.width part e ≡ false = sym q in
+      let v : readable refuses k.width part e ≡ false = flag e l true q in
       sym (sizes_enough refuses k sensors fs part fuel at scope enough ∙ rw (o, v))
 
-  pub by_number : (e : Expression) (next : ℕ) → Ok (e, next) ≡ decoded k.width tail at → true ≡ readable refuses k.width part e → false ≡ available k sensors (length table) scope e →
+  pub by_number : (e : Expression) (next : ℕ) → Ok (e, next) ≡ decoded k.width tail at → ((o : ℕ) → e ≡ Literal o → o + k.width ≤ length part) → false ≡ flagged flags e → false ≡ available k sensors (length table) scope e →
       refuse cause.NotAvailable (at + 1) ≡ sized k.width (expr refuses k sensors fs part fuel at scope)
-  by_number e next d q a =
+  by_number e next d l q a =
       let b : available k sensors (length fs) scope e ≡ false = sym (rw as_many at a) in
       let o : decoded k.width (drop at part) at ≡ Ok (e, next) = sym (rw whole at d) in
-      let v : readable refuses k.width part e ≡ true = sym q in
+      let v : readable refuses k.width part e ≡ true = flag e l false q in
       sym (sizes_enough refuses k sensors fs part fuel at scope enough ∙ rw (o, v, b))
 
   bodies : (e : Expression) (f g : Sizes) (h : (s : Sums) → combined k.width e f s ≡ combined k.width e g s) (r : Outcome (Sums × ℕ)) →
@@ -179,14 +196,14 @@ module _ (refuses : List ℕ → Bool) (k : KindShape) (sensors : ℕ) (table : 
   bodies e f g h (Ok s) = ap (λ (z : Sizes). Ok (z, s.1)) (sym (h s.0))
 
   pub by_parts : (e : Expression) (next : ℕ) (found : Function) (count new : ℕ) (r : Outcome (Sums × ℕ)) →
-      Ok (e, next) ≡ decoded k.width tail at → true ≡ readable refuses k.width part e → true ≡ available k sensors (length table) scope e →
+      Ok (e, next) ≡ decoded k.width tail at → ((o : ℕ) → e ≡ Literal o → o + k.width ≤ length part) → false ≡ flagged flags e → true ≡ available k sensors (length table) scope e →
       ((n : ℕ) (d : Function) → e ≡ Call n → found ≡ get_or table n d) → count ≡ part_count found.parameters e → new ≡ binds e →
       r ≡ part_sums k.width (expr refuses k sensors fs part (fuel - 1)) count next scope (scope + new) →
       after r (λ s. Ok (combined k.width e found.sizes s.0, s.1)) ≡ sized k.width (expr refuses k sensors fs part fuel at scope)
-  by_parts e next found count new r d u a h n v p =
+  by_parts e next found count new r d l u a h n v p =
       let b : available k sensors (length fs) scope e ≡ true = sym (rw as_many at a) in
       let o : decoded k.width (drop at part) at ≡ Ok (e, next) = sym (rw whole at d) in
-      let y : readable refuses k.width part e ≡ true = sym u in
+      let y : readable refuses k.width part e ≡ true = flag e l false u in
       let q = called_same k.width fs found e (λ n z i. h n z i ∙ ap (λ (l : List Function). get_or l n z) tab) in
       let read = expr refuses k sensors fs part (fuel - 1) in
       let f = get_or fs (callee e) no_function in
@@ -206,3 +223,10 @@ module _ (w : ℕ) (read : ℕ → ℕ → Outcome (Expr × ℕ)) (n at first ot
   pub by_others : (a : Sizes) (next : ℕ) (s : Outcome (Sums × ℕ)) → Ok (a, next) ≡ sized w (read at first) → s ≡ part_sums w read (n - 1) next others others →
       after s (λ s. Ok (with_part a s.0, s.1)) ≡ part_sums w read n at first others
   by_others a next s e p = ap (λ (z : Outcome (Sums × ℕ)). after {B = Sums × ℕ} z (λ s. Ok (with_part a s.0, s.1))) p ∙ by_first (Ok (a, next)) e
+
+-- what is marked in the bytes is marked in a part from their start
+pub marked_part : (refuses : List ℕ → Bool) (w : ℕ) (b : List ℕ) (flags : List Bool) (n : ℕ) → Marked refuses w b flags → Marked refuses w (take n b) flags
+marked_part refuses w b flags n h i le =
+    let l = length-take n b in
+    let in_b : i + w ≤ length b = omega arith in
+    h i in_b ∙ ap refuses (sym (ap (take w) (sym (between_is b i n)) ∙ take-take w (n - i) (drop i b) (omega arith)))

@@ -1,5 +1,5 @@
 -- Sizing by the bytes alone: what the code adds up and keeps in the place of unfolded expressions. Assumes nothing.
-use Rattle.std.specs.Prelude.{ℕ, zero, suc, ◌+◌, ◌-◌, max, List, ◌++◌, map, length, replicate}
+use Rattle.std.specs.Prelude.{◌≡◌, ℕ, zero, suc, ◌+◌, ◌-◌, ◌≤◌, max, Bool, false, List, ◌++◌, map, length, take, drop, replicate, slice_index_or}
 use Rattle.refusal.specs.Outcomes.{Outcome, mapped}
 use Rattle.program.specs.declared.sizes.Sizes.{Sizes}
 use Rattle.program.specs.declared.sizes.Sums.{Sums}
@@ -88,3 +88,22 @@ outline_of w c = record { header = c.header; functions = table_of w c.functions 
 
 abbrev pub outlined : ℕ → Outcome Checked → Outcome Outline
 outlined w = mapped (outline_of w)
+
+-- by offset: which literals are refused
+abbrev pub flagged : List Bool → Expression → Bool
+flagged flags (Literal at) = slice_index_or flags at false
+flagged flags (Variable n) = false
+flagged flags Let = false
+flagged flags (Operator n) = false
+flagged flags (Fold n) = false
+flagged flags Exchange = false
+flagged flags Share = false
+flagged flags If = false
+flagged flags (Call n) = false
+flagged flags (Sensor n) = false
+flagged flags Link = false
+flagged flags Own = false
+flagged flags Choose = false
+
+abbrev pub Marked : (List ℕ → Bool) → ℕ → List ℕ → List Bool → Type 0
+Marked refuses w b flags = (i : ℕ) → i + w ≤ length b → slice_index_or flags i false ≡ refuses (take w (drop i b))

@@ -1,10 +1,10 @@
-ghost use Rattle.std.specs.Prelude.{◌≡◌, ℕ, ◌+◌, ◌<◌, ◌≤◌, List, [], map, length, IfOk, Ok};
+ghost use Rattle.std.specs.Prelude.{◌≡◌, ℕ, ◌+◌, ◌<◌, ◌≤◌, Bool, List, [], map, length, IfOk, Ok};
 ghost use Rattle.buffer.specs.Buffers.{held_bytes};
 ghost use Rattle.refusal.specs.Outcomes.{after, must};
 ghost use Rattle.refusal.specs.declared.cause.Cause.TheVariants.{FunctionCount};
 ghost use Rattle.program.specs.Expressions.{Unfolded};
-ghost use Rattle.program.specs.Verdict.{refused_by, part_fits, part_end, function, functions};
-ghost use Rattle.program.specs.Sizing.{row, rowed, tabled};
+ghost use Rattle.program.specs.Verdict.{part_fits, part_end, function, functions};
+ghost use Rattle.program.specs.Sizing.{Marked, row, rowed, tabled};
 ghost use Rattle.program.specs.Bounds.{Limits};
 
 use crate::function::Function;
@@ -12,7 +12,6 @@ use crate::header::Header;
 use crate::shape::KindShape;
 use crate::source::Source;
 use buffer::buffer::Buffer;
-use kind::kind::Kind;
 use refusal::cause::Cause;
 use refusal::refused::Refusal;
 
@@ -38,11 +37,11 @@ fn end_of_part(block: &[u8], at: usize) -> Result<usize, Refusal>
 
 impl<'b> Source<'b> {
     // The function whose pair stands at `at` of the block, behind those of the table.
-    fn check_function<K: Kind>(self, at: usize, last: bool) -> Result<Function, Refusal>
+    fn check_function(self, at: usize, last: bool) -> Result<Function, Refusal>
         requires inside { at ≤ length self.bytes.now }
         requires behind { 10 ≤ at }
         ensures ends { IfOk result (λ f. (at < f.end) × (f.end ≤ length self.entry.bytes.now) × Limits f.sizes) }
-        ensures is { (fs : List Unfolded) → self.entry.table.now ≡ map (row self.entry.shape.width) fs → result ≡ rowed self.entry.shape.width (function (refused_by K.Kind.meaning) self.entry.shape self.entry.sensors self.entry.bytes.now fs last at) }
+        ensures is { (refuses : List ℕ → Bool) (fs : List Unfolded) → Marked refuses self.entry.shape.width self.entry.bytes.now self.entry.refused.now → self.entry.table.now ≡ map (row self.entry.shape.width) fs → result ≡ rowed self.entry.shape.width (function refuses self.entry.shape self.entry.sensors self.entry.bytes.now fs last at) }
     {
         let end = end_of_part(self.bytes, at)?;
         let parameters = self.bytes[at + 2];
@@ -52,13 +51,7 @@ impl<'b> Source<'b> {
                 position: at + 2,
             });
         }
-        let part = Source {
-            shape: self.shape,
-            sensors: self.sensors,
-            table: self.table,
-            bytes: &self.bytes[..end],
-        };
-        let (sizes, body_end) = part.size_expression::<K>(at + 3, parameters as usize)?;
+        let (sizes, body_end) = self.size_body(end, at + 3, parameters as usize)?;
         if body_end != end {
             return Err(Refusal {
                 cause: Cause::ProgramLeftover,
@@ -87,15 +80,16 @@ impl<'b> Source<'b> {
 }
 
 // The rows of the block's functions, one after the other.
-pub(crate) fn check_functions<K: Kind>(
+pub(crate) fn check_functions(
     shape: KindShape,
+    refused: &[bool],
     header: Header,
     block: &Buffer<1024>,
 ) -> Result<[Function; 32], Refusal>
     requires long { 10 ≤ length (held_bytes block.now) }
     requires few { header.functions ≤ 32 }
     ensures long { IfOk result (λ t. length t ≡ 32) }
-    ensures is { result ≡ tabled shape.width (functions (refused_by K.Kind.meaning) shape header.sensors (held_bytes block.now) header.functions 10 []) }
+    ensures is { (refuses : List ℕ → Bool) → Marked refuses shape.width (held_bytes block.now) refused.now → result ≡ tabled shape.width (functions refuses shape header.sensors (held_bytes block.now) header.functions 10 []) }
 {
     let bytes = block.as_slice();
     let count = header.functions as usize;
@@ -106,10 +100,11 @@ pub(crate) fn check_functions<K: Kind>(
         let source = Source {
             shape,
             sensors: header.sensors,
+            refused,
             table: &table[..i],
             bytes,
         };
-        let f = source.check_function::<K>(at, i + 1 == count)?;
+        let f = source.check_function(at, i + 1 == count)?;
         table[i] = f;
         at = f.end;
     }

@@ -1,7 +1,9 @@
 ghost use Rattle.std.specs.Prelude.{◌≡◌, ◌≤◌, true, IfOk};
+ghost use Rattle.buffer.specs.Buffers.{held_bytes};
 ghost use Rattle.refusal.specs.Outcomes.{mapped, InLayer};
-ghost use Rattle.program.specs.Verdict.{verdict, shape_of, suits as suits_kind};
+ghost use Rattle.program.specs.Verdict.{verdict, shape_of, refused_by, suits as suits_kind};
 ghost use Rattle.program.specs.Programs.{shown};
+ghost use Rattle.program.specs.Sizing.{Marked};
 
 use crate::block::check_functions;
 use crate::header::read_header;
@@ -25,6 +27,21 @@ fn shape<K: Kind>() -> KindShape
     }
 }
 
+// By offset, whether the kind refuses a literal there.
+fn refused_literals<K: Kind>(width: u8, block: &Buffer<1024>) -> [bool; 1024]
+    requires some { 1 ≤ width }
+    ensures { Marked (refused_by K.Kind.meaning) width (held_bytes block.now) result }
+{
+    let bytes = block.as_slice();
+    let mut flags = [false; 1024];
+    for (at, flag) in flags.iter_mut().enumerate() {
+        if let Some(literal) = bytes.get(at..at + width as usize) {
+            *flag = K::read(literal).is_none();
+        }
+    }
+    flags
+}
+
 /// The program in the bytes, checked for the kind; or the first refusal.
 pub fn check<K: Kind>(bytes: &[u8]) -> Result<Program, Refusal>
     ensures is { mapped shown result ≡ verdict K.Kind.meaning bytes.now }
@@ -34,7 +51,8 @@ pub fn check<K: Kind>(bytes: &[u8]) -> Result<Program, Refusal>
     let shape = shape::<K>();
     let header = read_header(shape, bytes)?;
     let block = Buffer::of(bytes);
-    let functions = check_functions::<K>(shape, header, &block)?;
+    let refused = refused_literals::<K>(shape.width, &block);
+    let functions = check_functions(shape, &refused, header, &block)?;
     Ok(keep(shape, Outline { header, functions }, block))
 }
 
