@@ -207,19 +207,19 @@ module _ {V : Type 0} (k : Meaning V) (lawful : Lawful k) (x : Inputs) where
         a rd-v rec (subst (WorkedAll k x flags f' top (machine t n.output n.cursors n.place) o end) same b)
         (subst (λ (z : ℕ × ℕ). Handed k x here base z.0 z.1 o.rows t' o.output out o.cursors c') founds handed))
 
-    pub yes_done : (still : List Bool) (n o : Machine V) (out : Output) (c' : Cursors) (next second end inside : ℕ) (v : V) (first : Bool) → Step from If
+    pub yes_done : (still : List Bool) (n o : Machine V) (out : Output) (c' : Cursors) (here next second end inside : ℕ) (v : V) (first : Bool) → Step from If
         → Worked k x flags f base m n next (rd (d - 1) (from + 1)) → ((z : V) → v ≡ get_or n.rows.cells.now (base + 1) z) → first ≡ k.truth v → first ≡ true
         → Parted k x flags still n.place first n.output out n.cursors c'
-        → Worked k x still f base (machine n.rows out c' (n.place + 1)) o second (rd (d - 1) next)
+        → here ≡ n.place + 1 → Worked k x still f base (machine n.rows out c' here) o second (rd (d - 1) next)
         → end ≡ (rd (d - 1) second).1 → inside ≡ places (rd (d - 1) second).0
         → Worked k x flags f base m (machine o.rows o.output o.cursors (o.place + inside)) end (rd d from)
-    yes_done still n o out c' next second end inside v first e a rd-v truth chosen parted b ends ins =
+    yes_done still n o out c' here next second end inside v first e a rd-v truth chosen parted heres b ends ins =
         let op = opened k x flags f base d from m r If e in
         let ea = rd (d - 1) (from + 1) in
         let eb = rd (d - 1) ea.1 in
         let ec = rd (d - 1) eb.1 in
         let nx = a.end_is in
-        let b' : Worked k x still f base (machine n.rows out c' (n.place + 1)) o second eb = subst (λ (z : ℕ). Worked k x still f base (machine n.rows out c' (n.place + 1)) o second (rd (d - 1) z)) nx b in
+        let b' : Worked k x still f base (machine n.rows out c' (n.place + 1)) o second eb = subst (λ (z : ℕ). Worked k x still f base (machine n.rows out c' (n.place + 1)) o second (rd (d - 1) z)) nx (subst (λ (z : ℕ). Worked k x still f base (machine n.rows out c' z) o second (rd (d - 1) next)) heres b) in
         let sc : second ≡ eb.1 = b'.end_is in
         subst (Worked k x flags f base m (machine o.rows o.output o.cursors (o.place + inside)) end) (sym op.is)
         (yes_worked k lawful x flags f base still m n c' out ea eb ec next v r.below r.wide a rd-v o second end (o.place + inside) (sym chosen ∙ truth)

@@ -518,7 +518,7 @@ branch-work-second-requires g t c κs within =
     let deep = ready.deep_ready k x flags f base d from m r in
     let n = seen c.work-next.new.self c.work-next.new.output in
     let me = c.decreases in
-    (omega arith, (within.0, (within.1, ready.yes_ready k x flags c.part_ways.result f base d from c.work-next.result (c.work-next.new.self.place + 1) m n c.part_ways.new.output c.part_ways.new.cursors c.truth-first.result r c.requires.step c.work-next.ensures c.part_ways.ensures refl)))
+    (omega arith, (within.0, (within.1, ready.yes_ready k x flags c.part_ways.result f base d from c.work-next.result _ m n c.part_ways.new.output c.part_ways.new.cursors c.truth-first.result r c.requires.step c.work-next.ensures c.part_ways.ensures (omega arith))))
 
 pub branch-skip-end-requires : goal.branch-skip-end-requires
 branch-skip-end-requires g t c =
@@ -633,7 +633,7 @@ branch-returns-then-first g t c =
     let m = seen c.args.self.now c.args.output.now in
     let n = seen c.work-next.new.self c.work-next.new.output in
     let o = seen c.work-second.new.self c.work-second.new.output in
-    done.yes_done k g.met.K.Kind.lawful x flags f base d from m r c.part_ways.result n o c.part_ways.new.output c.part_ways.new.cursors c.work-next.result c.work-second.result c.skip-end.result.0 c.skip-end.result.1 c.cell.result c.truth-first.result c.requires.step c.work-next.ensures c.cell.ensures c.truth-first.ensures c.if-first.true c.part_ways.ensures c.work-second.ensures c.skip-end.ensures.end c.skip-end.ensures.places
+    done.yes_done k g.met.K.Kind.lawful x flags f base d from m r c.part_ways.result n o c.part_ways.new.output c.part_ways.new.cursors _ c.work-next.result c.work-second.result c.skip-end.result.0 c.skip-end.result.1 c.cell.result c.truth-first.result c.requires.step c.work-next.ensures c.cell.ensures c.truth-first.ensures c.if-first.true c.part_ways.ensures (omega arith) c.work-second.ensures c.skip-end.ensures.end c.skip-end.ensures.places
 
 pub branch-returns-else-first : goal.branch-returns-else-first
 branch-returns-else-first g t c =
