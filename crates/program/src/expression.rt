@@ -58,6 +58,7 @@ pub(crate) fn decode(rest: &[u8], at: usize, width: u8) -> Result<(Expression, u
 impl Expression {
     /// The expression with a code at a position of a block, and with the number behind the code if it has one; none if
     /// no expression has the code. For the layers above: a walk keeps its position near the block.
+    // No `TryFrom`: a literal is told by its position, and an operand by the byte behind the code.
     pub fn of(code: u8, number: u8, at: usize) -> Option<Expression>
         requires { at + 1 < 2 ^ 64 }
         ensures { result ≡ expression_of code number at }

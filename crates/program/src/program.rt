@@ -14,7 +14,8 @@ pub struct Program {
     block: Buffer<1024>,
     shape: KindShape,
     outline: Outline,
-    // The bounds of the width stand here and not in the shape: specifications make shapes of any numbers.
+    // The bounds of the width and of the functions stand here, and not in the shape and the header: specifications make
+    // those of any numbers.
     ghost wide: { 1 ≤ shape.width },
     ghost narrow: { shape.width ≤ 16 },
     ghost some: { 1 ≤ outline.header.functions },

@@ -6,7 +6,7 @@ use crate::program::Program;
 use kind::kind::Kind;
 use std::marker::PhantomData;
 
-pub mod suiting;
+mod suiting;
 
 /// A checked program that is for the kind.
 #[derive(Drop)]

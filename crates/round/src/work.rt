@@ -18,7 +18,7 @@ use steps::hand_over::hand_over;
 use steps::leaf::leaf;
 use steps::part_ways::part_ways;
 use unfolding::skip::{skip, skip_parts};
-use unfolding::step::{count_parts, expression_at, parts_start};
+use unfolding::step::{count_parts, expression_at};
 
 impl<'m, V: Copy> Worker<'m, V> {
     // Works the expression at `at`: lays its row at `base`, puts its records, passes its places, and answers where it ends.
@@ -49,7 +49,7 @@ impl<'m, V: Copy> Worker<'m, V> {
             | Expression::Sensor(_)
             | Expression::Link => {
                 leaf::<K>(scene.inputs, e, scene.frame, &mut self.rows, task.base);
-                parts_start(e, task.at, program.width())
+                e.parts_start(task.at, program.width())
             }
         }
     }
@@ -100,7 +100,7 @@ impl<'m, V: Copy> Worker<'m, V> {
     {
         let program = scene.inputs.program;
         let count = count_parts(program, e);
-        let at = parts_start(e, task.at, program.width());
+        let at = e.parts_start(task.at, program.width());
         let depth = task.depth - 1;
         let end = self.work_parts::<K>(scene, output, Task { at, depth, ..task }, count);
         finish::<K>(e, scene.aligned, &mut self.rows, task.base);

@@ -14,7 +14,7 @@ use record::judge::due_record;
 use record::record::Body;
 use refusal::refused::Refusal;
 use unfolding::skip::skip;
-use unfolding::step::{count_parts, expression_at, parts_start};
+use unfolding::step::{count_parts, expression_at};
 
 // A message that is read along a program.
 #[derive(Drop)]
@@ -53,7 +53,7 @@ impl Walk<'_> {
         if let Expression::If = e {
             return self.branch::<K>(depth, from);
         }
-        let at = parts_start(e, from.at, self.program.width());
+        let at = e.parts_start(from.at, self.program.width());
         let count = count_parts(self.program, e);
         let end = self.walk_parts::<K>(count, depth - 1, Stand { at, ..from })?;
         self.finish::<K>(e, depth - 1, end)

@@ -4,7 +4,7 @@ ghost use Rattle.program.specs.Programs.{shown};
 ghost use Rattle.unfolding.specs.Unfolding.{listed, body_places};
 ghost use Rattle.unfolding.specs.Walks.{rows, unfolded_in};
 
-use crate::step::{count_parts, expression_at, parts_start, places_own};
+use crate::step::{count_parts, expression_at, places_own};
 use program::expression::Expression;
 use program::program::Program;
 
@@ -28,7 +28,7 @@ pub fn skip(program: &Program, at: usize, depth: usize) -> (usize, usize)
     let (end, inside) = skip_parts(
         program,
         count_parts(program, e),
-        parts_start(e, at, program.width()),
+        e.parts_start(at, program.width()),
         depth - 1,
     );
     let body = skip_called(program, e, depth - 1);

@@ -34,14 +34,6 @@ pub fn count_parts(program: &Program, e: Expression) -> usize
     }
 }
 
-/// Where the parts of an expression at `at` begin, with values of `width` bytes.
-pub fn parts_start(e: Expression, at: usize, width: usize) -> usize
-    requires { start width at e < 2 ^ 64 }
-    ensures { result ≡ start width at e }
-{
-    e.parts_start(at, width)
-}
-
 /// How many places are an expression's own.
 pub fn places_own(e: Expression) -> usize
     ensures { result ≡ own_places e }
