@@ -4,11 +4,11 @@ ghost use Rattle.refusal.specs.Causes.{layer_number};
 /// What refused a call.
 #[derive(Clone, Copy, PartialEq, Eq, Debug)]
 pub enum Layer {
-    Program,
-    Link,
-    Tree,
-    Inbox,
-    Round,
+    Program = 1,
+    Link = 2,
+    Tree = 3,
+    Inbox = 4,
+    Round = 5,
 }
 
 impl Layer {
@@ -16,12 +16,6 @@ impl Layer {
     pub fn number(self) -> u8
         ensures { result ≡ layer_number self }
     {
-        match self {
-            Layer::Program => 1,
-            Layer::Link => 2,
-            Layer::Tree => 3,
-            Layer::Inbox => 4,
-            Layer::Round => 5,
-        }
+        self as u8
     }
 }

@@ -258,7 +258,7 @@ fn rows_found(e: Expression, top: usize, width: usize) -> (usize, usize)
     }
 }
 
-// The frame of `count` rows from `base` on, and where they end.
+// The frame of `count` rows from `base` on, and where they end. By a loop: a fold over two values is no plainer.
 fn arguments(base: usize, width: usize, count: usize) -> (Frame, usize)
     requires few { count ≤ 8 }
     requires narrow { width ≤ 18 }
