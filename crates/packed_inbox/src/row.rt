@@ -11,7 +11,7 @@ pub struct Row {
 }
 
 /// How many bytes the rows' items have together.
-pub fn bytes_of(rows: &[Row]) -> usize
+pub(crate) fn bytes_of(rows: &[Row]) -> usize
     requires { length rows.now ≤ most_senders }
     ensures { result ≡ span rows.now }
 {
@@ -19,7 +19,7 @@ pub fn bytes_of(rows: &[Row]) -> usize
 }
 
 /// How many bytes the items of the other senders have.
-pub fn bytes_of_others(rows: &[Row], sender: u16) -> usize
+pub(crate) fn bytes_of_others(rows: &[Row], sender: u16) -> usize
     requires { length rows.now ≤ most_senders }
     ensures { result ≡ span_without sender rows.now }
 {

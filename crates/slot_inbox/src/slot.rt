@@ -41,7 +41,7 @@ impl Slot {
 }
 
 /// Raises the age of the slot's item by one, or ends it.
-pub fn age(slot: &mut Option<Slot>, limits: Limits)
+pub(crate) fn age(slot: &mut Option<Slot>, limits: Limits)
     ensures { slot.new ≡ aged_slot limits.life slot.old }
 {
     if let Some(held) = slot {
@@ -53,7 +53,7 @@ pub fn age(slot: &mut Option<Slot>, limits: Limits)
 }
 
 /// Whether the slot holds an item of the sender.
-pub fn is_of(slot: &Option<Slot>, sender: u16) -> bool
+pub(crate) fn is_of(slot: &Option<Slot>, sender: u16) -> bool
     ensures { result ≡ is_held sender slot.now }
 {
     slot.as_ref().is_some_and(|held| held.sender == sender)
