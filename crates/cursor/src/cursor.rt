@@ -9,6 +9,8 @@ use record::header::MOST_BYTES;
 use record::reading::read_at;
 use record::record::{Body, Record, counted, pair, record_at};
 
+// Tree, position and place come apart: a round has its positions in an array of its own, and the trees in its bytes.
+
 // The place of the record that begins at `at`, and where it ends, if the tree has it to its end.
 fn head(tree: &[u8], at: usize) -> Option<(usize, usize)>
     ensures is { result ≡ head_at tree.now at }

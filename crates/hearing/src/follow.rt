@@ -19,6 +19,8 @@ pub fn begin<K: Kind>() -> Cursors
     }
 }
 
+// Inputs, cursors, place and flags come apart: a round lends each from another struct.
+
 /// Moves every cursor on to the first record whose place is at least `place`.
 pub fn advance<K: Kind>(x: &Inputs<'_>, cursors: &mut Cursors, place: usize)
     ensures { (g : Given (K.Value)) (low : ℕ) → Gives K.Kind.meaning x.now g → Standing K.Kind.meaning x.now g low cursors.old → low ≤ place → Standing K.Kind.meaning x.now g place cursors.new }

@@ -18,6 +18,7 @@ fn read_item<I: Inbox>(inbox: &I, sender: u16, bytes: &mut [u8], start: usize) -
     ensures { ReadsItem (I.Inbox.meaning inbox.now) sender start bytes.old bytes.new result }
 {
     let found = inbox.read(sender, &mut bytes[start..start + LONGEST_ITEM]);
+    // 0 where there is none: an item of no bytes is no link and no tree, so it does not count.
     found.ok().flatten().unwrap_or(0)
 }
 

@@ -12,6 +12,8 @@ pub trait Inbox {
     /// What always holds of that.
     ghost lawful: { (x : Self) → Lawful (meaning x) };
 
+    // `untouched` stands at each call that changes nothing: no type says that a value is what it was before.
+
     /// Holds the item at age 0, in place of the sender's earlier one.
     fn put(&mut self, sender: u16, item: &[u8]) -> Result<(), Refusal>
         ensures value { result ≡ put_answer (meaning self.old) sender item.now }

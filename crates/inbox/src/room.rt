@@ -9,6 +9,7 @@ use refusal::refused::Refusal;
 #[derive(Clone, Copy)]
 pub struct Room {
     /// Whether its sender is held.
+    // A flag by itself: no value stands beside it that only a held sender has.
     pub held: bool,
     /// How many senders are held.
     pub count: usize,

@@ -3,6 +3,8 @@ ghost use Rattle.inbox_history.specs.declared.call.Answer.TheVariants.{Done, Ref
 
 use refusal::refused::Refusal;
 
+// Not the call of a script: that one holds an item's bytes, on the heap.
+
 /// A call of a history. The item of a put is told by its length and its first byte, the buffer of a read by its length.
 #[derive(Clone, Copy)]
 pub enum Call {

@@ -83,6 +83,7 @@ impl Model {
         self.held[senders::index(sender)].take().is_some()
     }
 
+    // Written on its own, though a slot inbox does alike: what is compared shares no code.
     fn next(&self, k: u16) -> Option<u16> {
         self.held
             .iter()

@@ -13,6 +13,7 @@ pub struct Node<K, I> {
     program: Program,
     number: u16,
     inbox: I,
+    // No bytes before the first round, as `last_tree` answers them.
     last: Buffer<MOST_BYTES>,
     kind: PhantomData<K>,
 }

@@ -27,7 +27,7 @@ fn shape<K: Kind>() -> KindShape
     }
 }
 
-// By offset, whether the kind refuses a literal there.
+// By offset, whether the kind refuses a literal there. Beside the bytes, and for all of them: sizing names no kind.
 fn refused_literals<K: Kind>(width: u8, block: &Buffer<1024>) -> [bool; 1024]
     requires some { 1 ≤ width }
     ensures { Marked (refused_by K.Kind.meaning) width (held_bytes block.now) result }

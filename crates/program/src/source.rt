@@ -7,7 +7,8 @@ use crate::shape::KindShape;
 // What functions and their expressions are read against: the numbers of the kind, how many sensors there are, by offset
 // whether the kind refuses a literal there, the functions before this one, and the bytes of the block, for an
 // expression those up to the end of its function's part.
-// A position is a parameter of each method: it is another one at each call.
+// A position is a parameter of each method: it is another one at each call. What flags and table stand for is said for any
+// test and any functions, so at each method.
 #[derive(Clone, Copy)]
 pub(crate) struct Source<'b> {
     pub(crate) shape: KindShape,

@@ -10,6 +10,8 @@ use refusal::refused::Refusal;
 /// The most entries of a record.
 pub const MOST_ENTRIES: usize = 17;
 
+// That a record is well formed is asked, and no invariant: it speaks of a width and a message that a record does not keep.
+
 /// A record as it stands in a message, from `offset` on: its parts are parts of the message.
 #[derive(Clone, Copy, Debug, PartialEq, Eq)]
 pub enum Record<'m> {

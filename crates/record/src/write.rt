@@ -11,6 +11,8 @@ use crate::output::Output;
 use kind::kind::Kind;
 use kind::output::write_at;
 
+// A place is an index in a round and two bytes in a record, so its bound is asked where it is written.
+
 /// Puts a value behind what is written. An inner function: the caller knows that there is room, as for those below.
 pub fn put_value<K: Kind>(output: &mut Output<'_>, v: K::Value)
     requires { output.old.len + K.Kind.meaning.width ≤ length output.old.bytes.now }

@@ -54,6 +54,7 @@ enum PlayError {
     Io(#[from] io::Error),
 }
 
+// By hand: a line that finds no memory is a failure of the program, and no unreadable line.
 impl From<LineError> for PlayError {
     fn from(e: LineError) -> PlayError {
         match e {

@@ -10,6 +10,7 @@ use std::fmt;
 #[derive(Clone, Copy)]
 pub struct Hex<'a>(pub &'a [u8]);
 
+// By hand: the kit's `hex` gives a text on the heap or fills a buffer.
 impl fmt::Display for Hex<'_> {
     fn fmt<W: fmt::Write>(&self, f: &mut fmt::Formatter<W>) -> fmt::Result {
         if self.0.is_empty() {
@@ -44,7 +45,7 @@ impl fmt::Display for Accepted<'_> {
     }
 }
 
-// The number in the first two bytes, and what follows it.
+// The number in the first two bytes, and what follows it. 0 for fewer: only parts of accepted messages are shown.
 fn numbered(bytes: &[u8]) -> (u16, &[u8]) {
     match bytes {
         [high, low, rest @ ..] => (u16::from_be_bytes([*high, *low]), rest),

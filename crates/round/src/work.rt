@@ -20,6 +20,8 @@ use steps::part_ways::part_ways;
 use unfolding::skip::{skip, skip_parts};
 use unfolding::step::{count_parts, expression_at};
 
+// What is asked and promised is of worker, scene, output and task together, so it stands at each method. A scene serves many
+// tasks, so the two are no one struct.
 impl<'m, V: Copy> Worker<'m, V> {
     // Works the expression at `at`: lays its row at `base`, puts its records, passes its places, and answers where it ends.
     #[cycle(working)]
@@ -54,7 +56,8 @@ impl<'m, V: Copy> Worker<'m, V> {
         }
     }
 
-    // The same of `count` expressions in a row: their rows lie one behind the other.
+    // The same of `count` expressions in a row: their rows lie one behind the other. By recursion, as the rules are: a loop
+    // would have to say what was done so far in their words.
     #[cycle(working)]
     fn work_parts<K: Kind<Value = V>>(
         &mut self,

@@ -131,7 +131,7 @@ fn run_on<'a, K: Kind>(
     run::<K>(&x, values, output)
 }
 
-// A round that is not refused.
+// A round that is not refused. The parameters and the sizes of lent memory are those of `work_out`, whose promise names each.
 fn give<K: Kind, I: Inbox>(
     program: &ProgramFor<'_, K>,
     node: u16,

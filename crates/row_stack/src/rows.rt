@@ -6,7 +6,9 @@ ghost use Rattle.row_stack.specs.Rows.{row, Laid, applied, chosen, gathered, sen
 use crate::row_stack::RowStack;
 use kind::kind::Kind;
 
-// Makes all cells one value.
+// Rows are named by their first cells, and what is asked of those is asked at each call: a stack is a view of lent cells.
+
+// Makes all cells one value. Not by the library's `fill`: it asks that a clone cannot fail, which `Copy` does not say.
 fn fill_cells<V: Copy>(cells: &mut [V], v: V)
     ensures { cells.new ≡ replicate (length cells.old) v }
 {
@@ -15,11 +17,14 @@ fn fill_cells<V: Copy>(cells: &mut [V], v: V)
     }
 }
 
+// Two functions where two cells and where three go together: a fold over a list of fellows would need such a list.
+
 // Makes of each cell what an operator makes of it and of its fellow.
 fn combine_cells<K: Kind>(op: u8, cells: &mut [K::Value], others: &[K::Value])
     requires { length others.now ≡ length cells.old }
     ensures { cells.new ≡ applied (K.Kind.meaning.apply op) cells.old others.now }
 {
+    // By index into the others: after a `zip` in a loop a proof knows their lengths alone.
     for (i, cell) in cells.iter_mut().enumerate() {
         *cell = K::apply(op, *cell, others[i]);
     }
@@ -41,6 +46,7 @@ fn choose_cells<K: Kind>(cells: &mut [K::Value], yes: &[K::Value], no: &[K::Valu
     requires no { length no.now ≡ length cells.old }
     ensures { cells.new ≡ chosen K.Kind.meaning.truth cells.old yes.now no.now }
 {
+    // By index, as above.
     for (i, cell) in cells.iter_mut().enumerate() {
         *cell = if K::truth(*cell) { yes[i] } else { no[i] };
     }

@@ -64,6 +64,7 @@ pub enum LineError {
     Memory(AllocError),
 }
 
+// By hand: of the library's errors only memory is told apart.
 impl From<FromHexError> for LineError {
     ghost from_gives = { λ e r. (e ≡ OutOfMemory → r ≡ Memory alloc_error) × (e ≢ OutOfMemory → r ≡ NotHexadecimal) };
 

@@ -34,6 +34,7 @@ pub fn cut(text: &[u8], c: u8) -> (&[u8], &[u8])
 }
 
 /// The first word of a line, empty if there is none, and what follows it.
+// Empty, and no `Option`: what follows is answered either way.
 pub fn first_word(line: &[u8]) -> (&[u8], &[u8])
     ensures word { result.0.now ≡ first_word line.now }
     ensures rest { result.1.now ≡ other_words line.now }

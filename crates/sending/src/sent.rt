@@ -47,6 +47,7 @@ fn put_others<K: Kind>(
     requires room { output.old.len + length numbers.now * (2 + K.Kind.meaning.width) ≤ length output.old.bytes.now }
     ensures { Puts output.old output.new (written_entries K.Kind.meaning (kept K.Kind.meaning default numbers.now cells.now)) }
 {
+    // By index into the cells: after a `zip` in a loop a proof knows their number alone.
     for (i, n) in numbers.iter().enumerate() {
         put_other::<K>(output, *n, cells[i], default);
     }

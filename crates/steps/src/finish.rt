@@ -9,7 +9,7 @@ use row_stack::row_stack::RowStack;
 /// Makes the row of an expression of the rows of its parts, over the first of them. An inner function.
 pub fn finish<K: Kind>(
     e: Expression,
-    aligned: &[bool; 16],
+    aligned: &[bool],
     rows: &mut RowStack<'_, K::Value>,
     base: usize,
 )

@@ -1,7 +1,8 @@
 ghost use Rattle.std.specs.Prelude.{◌≡◌, ◌≤◌, length};
 
 /// Where the rows of the variables in sight begin.
-// An array and a count: a frame is copied at each binding, and the kit's vectors of fixed memory are no Copy.
+// An array and a count: a frame is copied at each binding, the kit's vectors of fixed memory are no Copy,
+// and a `Buffer` holds bytes.
 #[derive(Clone, Copy)]
 pub struct Frame {
     rows: [u16; 40],

@@ -10,6 +10,8 @@ use record::output::Output;
 use row_stack::row_stack::RowStack;
 use sending::sent::put_sent;
 
+// What an outcome is handed over with comes apart: a round lends each from another struct.
+
 /// Hands over the outcome of an exchange: puts the record of the row that is sent, moves the cursors past its place, and
 /// lays the row that is returned at `base`. `found` are the rows of what is returned and of what is sent. An inner
 /// function: the rows are there, and there is room for the record.

@@ -8,6 +8,8 @@ use kind::kind::Kind;
 use record::output::Output;
 use record::write::put_choice;
 
+// What ways are parted with comes apart: a round lends each from another struct.
+
 /// Parts ways at an if: puts its choice, moves the cursors on to its place, and tells which senders stay aligned.
 /// An inner function: there is room for the record.
 pub fn part_ways<K: Kind>(

@@ -59,7 +59,8 @@ impl Walk<'_> {
         self.finish::<K>(e, depth - 1, end)
     }
 
-    // The same of `count` expressions in a row.
+    // The same of `count` expressions in a row. By recursion, as the rules are: a loop would have to say what was read so far
+    // in their words.
     #[cycle(branch_finish_walk_walk_parts)]
     fn walk_parts<K: Kind>(&self, count: usize, depth: usize, from: Stand) -> Result<Stand, Refusal>
         requires near { from.at ≤ length (shown self.now.program.now).block + 17 }

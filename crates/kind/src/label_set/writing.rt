@@ -7,7 +7,7 @@ use super::LabelSet;
 const NEXT_BIT: u64 = 0x1000_0000_0000_0000;
 
 // Methods, as those of std with these names are: a conversion would not say the order of the bytes, and bits that are no
-// set have no error to tell.
+// set have no error to tell. A pair for each kind: std has no trait of integers that are written to bytes.
 impl LabelSet {
     /// The set of these bits: `None` if any of the upper four is set.
     pub fn from_bits(bits: u64) -> Option<LabelSet>

@@ -3,7 +3,8 @@ ghost use Rattle.kind.specs.Numbers as numbers;
 
 use super::Number;
 
-// Methods, as those of std with these names are: a conversion would not say the order of the bytes.
+// Methods, as those of std with these names are: a conversion would not say the order of the bytes. A pair for each kind:
+// std has no trait of integers that are written to bytes.
 impl Number {
     /// Two's complement, highest byte first.
     pub(crate) fn to_be_bytes(self) -> [u8; 4]
@@ -22,6 +23,7 @@ impl Number {
 }
 
 /// The number that 32 bits write: `None` for 80000000.
+// No `TryFrom`: bits that are no number have no error to tell.
 fn from_bits(bits: u32) -> Option<Number>
     ensures { result ≡ numbers.in_range (numbers.signed bits) }
 {

@@ -25,6 +25,7 @@ impl<K: Kind, I: Inbox> Node<K, I> {
         self.inbox.passing();
     }
 
+    // Readings, values, bytes and output come apart: the caller lends each, and the promise names each.
     /// Works a round on the readings and on who is held: writes its tree to the output's front, and answers the result
     /// and the tree's length.
     pub fn round(

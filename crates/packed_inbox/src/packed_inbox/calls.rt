@@ -8,6 +8,8 @@ use inbox::inbox::Inbox;
 use inbox::room::{Room, check_buffer};
 use refusal::refused::Refusal;
 
+// Calls have the same steps in both inboxes, but over inner functions of each: one generic function would need a trait of
+// those. A `match` stands where the two ways do different things.
 impl<'a> Inbox for PackedInbox<'a> {
     ghost meaning = { contents };
 
@@ -19,7 +21,6 @@ impl<'a> Inbox for PackedInbox<'a> {
         ensures untouched { IfRefused result (self.new ≡ self.old) }
         ensures memory { Rewrites self.old.memory self.new.memory (laid_in (contents self.new).items (lent self.old)) }
     {
-        // The steps of any put, but each on what is this inbox's own, so they are not one generic function.
         let room = Room {
             held: self.find(sender).is_some(),
             count: self.table.len(),

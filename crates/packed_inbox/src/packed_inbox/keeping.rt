@@ -78,7 +78,8 @@ impl<'a> PackedInbox<'a> {
         self.table.remove(at);
     }
 
-    // Adds an item of a sender that has none. What is asked is of the inbox and the item together, so no type says it.
+    // Adds an item of a sender that has none. What is asked is of the inbox and the item together, so no type
+    // says it; that the item is short is known of its length alone, by `Room::check`.
     pub(super) fn insert(&mut self, sender: u16, item: &[u8])
         requires free { holds (contents self.old).items sender ≡ false }
         requires few { length (contents self.old).items < (contents self.old).sender_limit }

@@ -7,13 +7,14 @@ use inbox::limits::LONGEST_ITEM;
 use inbox::room::{Room, check_buffer};
 use refusal::refused::Refusal;
 
+// Calls have the same steps in both inboxes, but over inner functions of each: one generic function would need a trait of
+// those. A `match` stands where the two ways do different things.
 impl Inbox for SlotInbox {
     ghost meaning = { contents };
 
     ghost lawful = { slot_inbox_lawful };
 
     fn put(&mut self, sender: u16, item: &[u8]) -> Result<(), Refusal> {
-        // The steps of any put, but each on what is this inbox's own, so they are not one generic function.
         // Each sender has room for the longest item, whatever the others have.
         let room = Room {
             held: self.place(sender).is_some(),

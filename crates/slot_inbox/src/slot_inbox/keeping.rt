@@ -20,7 +20,7 @@ impl SlotInbox {
         }
     }
 
-    // The slot of the sender.
+    // The slot of the sender. Beside `place`: a read needs the slot, a removal its index.
     pub(super) fn find(&self, sender: u16) -> Option<&Slot>
         ensures { option_copied result ≡ find (λ s. s.sender == sender) (taken self.now.slots) }
     {
@@ -51,7 +51,8 @@ impl SlotInbox {
         self.slots.iter().flatten().count()
     }
 
-    // Adds an item of a sender that has none. What is asked is of the inbox and the item together, so no type says it.
+    // Adds an item of a sender that has none. What is asked is of the inbox and the item together, so no type
+    // says it; that the item is short is known of its length alone, by `Room::check`.
     pub(super) fn insert(&mut self, sender: u16, item: &[u8])
         requires free { holds (contents self.old).items sender ≡ false }
         requires few { length (contents self.old).items < (contents self.old).sender_limit }
