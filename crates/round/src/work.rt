@@ -106,7 +106,9 @@ impl<'m, V: Copy> Worker<'m, V> {
         let at = e.parts_start(task.at, program.width());
         let depth = task.depth - 1;
         let end = self.work_parts::<K>(scene, output, Task { at, depth, ..task }, count);
-        finish::<K>(e, scene.aligned, &mut self.rows, task.base);
+        // Copied: flags behind a field that is a reference are not lent again as a slice.
+        let aligned = *scene.aligned;
+        finish::<K>(e, &aligned, &mut self.rows, task.base);
         end
     }
 
