@@ -56,10 +56,8 @@ impl Program {
     pub fn function(&self, n: u8) -> Function
         ensures { result ≡ slice_index_or (table_of (shown self.now).shape.width (shown self.now).functions) n no_row }
     {
-        match self.outline.functions.get(n as usize) {
-            Some(f) => *f,
-            None => Function::default(),
-        }
+        let row = self.outline.functions.get(n as usize);
+        row.copied().unwrap_or_default()
     }
 
     /// The block that it was read from.
