@@ -44,6 +44,9 @@ outcome_low Link top w = (refl, omega arith)
 outcome_low Own top w = (refl, omega arith)
 outcome_low Choose top w = (refl, omega arith)
 
+pub found_low : (st : Expression) (top w : ℕ) {found : ℕ × ℕ} → found ≡ outcome_rows st top w → (found.0 ≡ top) × (found.1 ≤ top + w)
+found_low st top w e = subst (λ (p : ℕ × ℕ). (p.0 ≡ top) × (p.1 ≤ top + w)) (sym e) (outcome_low st top w)
+
 -- the machine with other rows
 abbrev pub with_rows : {V : Type 0} → Machine V → RowStack V → Machine V
 with_rows m t = machine t m.output m.cursors m.place

@@ -3,6 +3,7 @@ use Rattle.std.proofs.Common.{◌≡◌, ℕ, zero, suc, ◌+◌, ◌-◌, ◌�
 use Rattle.kind.specs.Kind.{Meaning, Lawful}
 use Rattle.program.specs.declared.expression.Expression.{Expression}
 use Rattle.program.specs.declared.expression.Expression.TheVariants.{Literal, Variable, Let, Operator, Fold, Exchange, Share, If, Call, Sensor, Link, Own, Choose}
+use Rattle.program.specs.declared.function.Function.{Function}
 use Rattle.program.specs.Expressions.{Expr, Exprs, link}
 use Rattle.program.specs.Measures.{places, places_all}
 use Rattle.program.specs.Programs.{shown}
@@ -24,7 +25,7 @@ use Rattle.round.specs.Machines.{Machine, machine, ReadyOne, ReadyAll, Worked, W
 use Rattle.round.specs.Counts.{count_all}
 use Rattle.round.proofs.Arms.{with_rows, none_worked, next_worked, leaf_worked, computed_worked, bind_worked, call_worked, yes_worked, no_worked, sends_worked}
 use Rattle.round.proofs.Rowing.{row_after_most, row_after_least}
-use Rattle.round.proofs.Readying.{opened, left, narrow_row, parts_few, spread}
+use Rattle.round.proofs.Readying.{called_few, opened, left, narrow_row, spread}
 
 -- the four leaves
 pub is_leaf : (e : Expression) → ((i : ℕ) × e ≡ Literal i) ⊎ (((i : ℕ) × e ≡ Variable i) ⊎ (((i : ℕ) × e ≡ Sensor i) ⊎ (e ≡ Link))) → Leaf e
@@ -160,13 +161,16 @@ module _ {V : Type 0} (k : Meaning V) (lawful : Lawful k) (x : Inputs) where
         (bind_worked k lawful x flags f f' base top m n o t (rd (d - 1) (from + 1)) (rd (d - 1) (rd (d - 1) (from + 1)).1) next end (omega arith) r.below ln (omega arith) a
         (subst (λ (z : ℕ). Worked k x flags f' top n o end (rd (d - 1) z)) a.end_is b) laid)
 
-    pub call_done : {f' : Frame} {i c called top end end' : ℕ} {n o : Machine V} {t : RowStack V} → Step from (Call i)
-        → c ≡ (named (rows x.program.now) i).parameters → called ≡ (named (rows x.program.now) i).start → top ≡ row_after n.rows.width base c → Arguments f' n.rows.width base c
-        → WorkedAll k x flags f base m n end (listed (rd (d - 1)) c (from + 2)) → Worked k x flags f' top n o end' (rd (d - 1) called) → Laid o.rows t base (row o.rows top)
+    pub call_done : {f' : Frame} {h : Function} {i top end end' : ℕ} {n o : Machine V} {t : RowStack V} → Step from (Call i)
+        → h ≡ named (rows x.program.now) i → top ≡ row_after n.rows.width base h.parameters → Arguments f' n.rows.width base h.parameters
+        → WorkedAll k x flags f base m n end (listed (rd (d - 1)) h.parameters (from + 2)) → Worked k x flags f' top n o end' (rd (d - 1) h.start) → Laid o.rows t base (row o.rows top)
         → Worked k x flags f base m (with_rows o t) end (rd d from)
-    call_done {f'} {i} {c} {called} {top} {end} {end'} {n} {o} {t} e cs calls tops ar a b laid =
+    call_done {f'} {h} {i} {top} {end} {end'} {n} {o} {t} e hs tops ar a b laid =
+        let c = h.parameters in
+        let cs : c ≡ (named (rows x.program.now) i).parameters = ap (λ (g : Function). g.parameters) hs in
+        let calls : h.start ≡ (named (rows x.program.now) i).start = ap (λ (g : Function). g.start) hs in
         let op = opened k x flags f base d from m r (Call i) e in
-        let few = parts_few k x (Call i) tt cs in
+        let few = called_few x i hs in
         let lw = a.kept.width in
         let cells = r.cells_are in
         let one = op.deep_enough in
@@ -182,18 +186,20 @@ module _ {V : Type 0} (k : Meaning V) (lawful : Lawful k) (x : Inputs) where
         (subst (λ (z : ℕ). WorkedAll k x flags f base m n end (listed (rd (d - 1)) z (from + 2))) cs a)
         (subst (λ (z : ℕ). Worked k x flags f' top n o end' (rd (d - 1) z)) calls b) laid)
 
-    pub exchange_done : (st : Expression) {f' : Frame} {c top next end here inside : ℕ} {found : ℕ × ℕ} {n o : Machine V} {t t' : RowStack V} {out : Output} {c' : Cursors} {v : V}
-        → Sends st → Step from st → c ≡ part_count 0 st - 1 → Longer f f' base → top ≡ base + t.width
-        → here ≡ n.place + inside → inside ≡ places_all (listed (rd (d - 1)) c next).0
+    pub exchange_done : (st : Expression) {f' : Frame} {count top next end here inside : ℕ} {found : ℕ × ℕ} {n o : Machine V} {t t' : RowStack V} {out : Output} {c' : Cursors} {v : V}
+        → Sends st → Step from st → count ≡ part_count 0 st → Longer f f' base → top ≡ base + t.width
+        → here ≡ n.place + inside → inside ≡ places_all (listed (rd (d - 1)) (count - 1) next).0
         → Worked k x flags f base m n next (rd (d - 1) (from + 1)) → ((z : V) → v ≡ get_or n.rows.cells.now (base + 1) z)
         → Received k x flags here n.cursors v n.rows t base
-        → WorkedAll k x flags f' top (machine t n.output n.cursors n.place) o end (listed (rd (d - 1)) c next)
+        → WorkedAll k x flags f' top (machine t n.output n.cursors n.place) o end (listed (rd (d - 1)) (count - 1) next)
         → found ≡ outcome_rows st top o.rows.width
         → Handed k x here base found.0 found.1 o.rows t' o.output out o.cursors c'
         → Worked k x flags f base m (machine t' out c' (here + 1)) end (rd d from)
-    exchange_done st {f'} {c} {top} {next} {end} {here} {inside} {found} {n} {o} {t} {t'} {out} {c'} {v} se e cs ln tops heres ins a rd-v rec b founds handed =
+    exchange_done st {f'} {count} {top} {next} {end} {here} {inside} {found} {n} {o} {t} {t'} {out} {c'} {v} se e counts ln tops heres ins a rd-v rec b founds handed =
         let op = opened k x flags f base d from m r st e in
-        let s = spread k x r st se e cs a in
+        let s = spread k x r st se e counts a in
+        let c = count - 1 in
+        let cs : c ≡ part_count 0 st - 1 = ap (λ (z : ℕ). z - 1) counts in
         let lw = a.kept.width in
         let sw = rec.laid.width in
         let cells = r.cells_are in

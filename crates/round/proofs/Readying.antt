@@ -3,6 +3,7 @@ use Rattle.std.proofs.Common.{◌≡◌, ℕ, zero, suc, ◌+◌, ◌-◌, ◌*�
 use Rattle.kind.specs.Kind.{Meaning}
 use Rattle.program.specs.declared.expression.Expression.{Expression}
 use Rattle.program.specs.declared.expression.Expression.TheVariants.{Literal, Variable, Let, Operator, Fold, Exchange, Share, If, Call, Sensor, Link, Own, Choose}
+use Rattle.program.specs.declared.function.Function.{Function}
 use Rattle.program.specs.Expressions.{Expr, Exprs, then}
 use Rattle.program.specs.Measures.{depth, depth_all, places, places_all, weight, weight_all, record_weight}
 use Rattle.program.specs.Programs.{shown}
@@ -86,6 +87,10 @@ gathers (Sensor i) s = s
 gathers Link s = s
 gathers Own s = s
 gathers Choose s = s
+
+-- a function in the program has few parameters
+pub called_few : (x : Inputs) (i : ℕ) {h : Function} → h ≡ named (rows x.program.now) i → h.parameters ≤ 8
+called_few x i {h} e = let c = ap (λ (g : Function). g.parameters) e in let few = few_parameters x.program.now i in omega arith
 
 module _ {V : Type 0} (k : Meaning V) (x : Inputs) where
   abbrev block_length : ℕ
@@ -339,12 +344,15 @@ module _ {V : Type 0} (k : Meaning V) (x : Inputs) where
         omega arith;
   }
 
-  pub body_ready : {flags : List Bool} {f f' : Frame} {base top d from c i called end here : ℕ} {m n : Machine V} → ReadyOne k x flags f base d from m → Some (Call i) ≡ expression_at (shown x.program.now).block from
-      → c ≡ (named (rows x.program.now) i).parameters → called ≡ (named (rows x.program.now) i).start
-      → top ≡ row_after n.rows.width base c → here ≡ n.place → Arguments f' n.rows.width base c
-      → WorkedAll k x flags f base m n end (listed (rd (d - 1)) c (from + 2))
-      → ReadyOne k x flags f' top (d - 1) called (machine n.rows n.output n.cursors here)
-  body_ready {flags} {f} {f'} {base} {top} {d} {from} {c} {i} {called} {end} {here} {m} {n} r e cs calls tops heres ar a =
+  pub body_ready : {flags : List Bool} {f f' : Frame} {base top d from i end here : ℕ} {h : Function} {m n : Machine V} → ReadyOne k x flags f base d from m → Some (Call i) ≡ expression_at (shown x.program.now).block from
+      → h ≡ named (rows x.program.now) i → top ≡ row_after n.rows.width base h.parameters → here ≡ n.place → Arguments f' n.rows.width base h.parameters
+      → WorkedAll k x flags f base m n end (listed (rd (d - 1)) h.parameters (from + 2))
+      → ReadyOne k x flags f' top (d - 1) h.start (machine n.rows n.output n.cursors here)
+  body_ready {flags} {f} {f'} {base} {top} {d} {from} {i} {end} {here} {h} {m} {n} r e hs tops heres ar a =
+      let c = h.parameters in
+      let called = h.start in
+      let cs : c ≡ (named (rows x.program.now) i).parameters = ap (λ (g : Function). g.parameters) hs in
+      let calls : called ≡ (named (rows x.program.now) i).start = ap (λ (g : Function). g.start) hs in
       let o = opened flags f base d from m r (Call i) e in
       let q = ready_by flags f base d from m r (Call i) o in
       let one = o.deep_enough in
@@ -408,9 +416,11 @@ module _ {V : Type 0} (k : Meaning V) (x : Inputs) where
     pub names : f.count + d ≤ 40
     pub below : Below f base m.rows.width
 
-  pub spread : {flags : List Bool} {f : Frame} {base d from next c : ℕ} {m n : Machine V} → ReadyOne k x flags f base d from m → (st : Expression) → Sends st → Some st ≡ expression_at (shown x.program.now).block from
-      → c ≡ part_count 0 st - 1 → Worked k x flags f base m n next (rd (d - 1) (from + 1)) → Spread flags f base d from next c m n
-  spread {flags} {f} {base} {d} {from} {next} {c} {m} {n} r st se e cs a =
+  pub spread : {flags : List Bool} {f : Frame} {base d from next count : ℕ} {m n : Machine V} → ReadyOne k x flags f base d from m → (st : Expression) → Sends st → Some st ≡ expression_at (shown x.program.now).block from
+      → count ≡ part_count 0 st → Worked k x flags f base m n next (rd (d - 1) (from + 1)) → Spread flags f base d from next (count - 1) m n
+  spread {flags} {f} {base} {d} {from} {next} {count} {m} {n} r st se e counts a =
+      let c = count - 1 in
+      let cs : c ≡ part_count 0 st - 1 = ap (λ (z : ℕ). z - 1) counts in
       let o = opened flags f base d from m r st e in
       let q = ready_by flags f base d from m r st o in
       let z = sends_sizes (d - 1) from st se in
