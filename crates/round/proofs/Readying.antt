@@ -151,9 +151,6 @@ module _ {V : Type 0} (k : Meaning V) (x : Inputs) where
         near = near_start (shown p).shape.width (shown p).block (rows p) (wide p) (narrow p) from st e r.near;
       }
 
-  pub deep_ready : {flags : List Bool} {f : Frame} {base d from : ℕ} {m : Machine V} → ReadyOne k x flags f base d from m → 1 ≤ d
-  deep_ready {flags} {f} {base} {d} {from} {m} r = let s = some_depth (rd d from).0 in let t = r.deep_is in omega arith
-
   -- ready for the expression as its parts show it
   pub ready_by : (flags : List Bool) (f : Frame) (base d from : ℕ) (m : Machine V) → ReadyOne k x flags f base d from m → (st : Expression) → Opened d from st
       → Ready k x flags d from base f m (162 * d) (depth (by (d - 1) from st).0) (places (by (d - 1) from st).0) (weight k.width (by (d - 1) from st).0)

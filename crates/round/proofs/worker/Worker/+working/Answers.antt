@@ -48,18 +48,19 @@ call-work_parts-end-requires g t c κs within =
 pub call-arguments-top-requires-clause-few : goal.call-arguments-top-requires-clause-few
 call-arguments-top-requires-clause-few g t c = ready.called_few c.args.scene.now.inputs.now c.args.n c.function-called.ensures
 
+pub call-overflow_sub-depth : goal.call-overflow_sub-depth
+call-overflow_sub-depth g t c = omega (arith, some_depth)
+
 pub call-work-requires : goal.call-work-requires
 call-work-requires g t c κs within = (omega (arith, some_depth), (within.0, (within.1, ready.body_ready _ _ c.requires.ready c.requires.step c.function-called.ensures c.arguments-top.ensures.top refl c.arguments-top.ensures.rows c.work_parts-end.ensures)))
 
-pub call-copy-requires-clause-there : goal.call-copy-requires-clause-there
-call-copy-requires-clause-there g t c =
-    let deep : 1 ≤ c.args.task.depth = ready.deep_ready _ _ c.requires.ready in
+pub call-copy-requires : goal.call-copy-requires
+call-copy-requires g t c =
     let few = ready.called_few c.args.scene.now.inputs.now c.args.n c.function-called.ensures in
     let l = ready.left _ _ c.work_parts-end.ensures in
     let l' = ready.left _ _ c.work.ensures in
-    let w = ready.narrow_row g.K.Kind.meaning c.args.scene.now.inputs.now c.args.self.now.rows c.requires.ready.wide in
-    let most = row_after_most c.work_parts-end.new.self.rows.width c.args.task.base c.function-called.result.parameters (omega arith) in
-    omega arith
+    let most = row_after_most c.work_parts-end.new.self.rows.width c.args.task.base c.function-called.result.parameters (omega (arith, some_depth)) in
+    record { room = omega (arith, some_depth); there = omega (arith, some_depth) }
 
 pub call-returns : goal.call-returns
 call-returns g t c = done.call_done _ g.met.K.Kind.lawful _ c.requires.ready c.requires.step c.function-called.ensures c.arguments-top.ensures.top c.arguments-top.ensures.rows c.work_parts-end.ensures c.work.ensures c.copy.ensures
@@ -67,10 +68,10 @@ call-returns g t c = done.call_done _ g.met.K.Kind.lawful _ c.requires.ready c.r
 pub exchange-work-next-requires : goal.exchange-work-next-requires
 exchange-work-next-requires g t c κs within = (omega (arith, some_depth), (within.0, (within.1, ready.first_ready _ _ c.requires.ready c.args.e (ready.sends_first c.args.e c.requires.sends) c.requires.step)))
 
-pub exchange-skip_parts-inside-requires-clause-near : goal.exchange-skip_parts-inside-requires-clause-near
-exchange-skip_parts-inside-requires-clause-near g t c =
+pub exchange-skip_parts-inside-requires : goal.exchange-skip_parts-inside-requires
+exchange-skip_parts-inside-requires g t c =
     let s = ready.spread _ _ c.requires.ready c.args.e c.requires.sends c.requires.step c.part_count-count.ensures c.work-next.ensures in
-    s.near
+    record { near = s.near; few = omega arith }
 
 pub exchange-overflow_add-here : goal.exchange-overflow_add-here
 exchange-overflow_add-here g t c =
@@ -102,10 +103,10 @@ exchange-returns g t c = done.exchange_done _ g.met.K.Kind.lawful _ c.requires.r
 pub branch-work-next-requires : goal.branch-work-next-requires
 branch-work-next-requires g t c κs within = (omega (arith, some_depth), (within.0, (within.1, ready.first_ready _ _ c.requires.ready If tt c.requires.step)))
 
-pub branch-part_ways-requires-clause-room : goal.branch-part_ways-requires-clause-room
-branch-part_ways-requires-clause-room g t c =
+pub branch-part_ways-requires : goal.branch-part_ways-requires
+branch-part_ways-requires g t c =
     let fk = ready.forked _ _ c.requires.ready c.requires.step c.work-next.ensures in
-    fk.room
+    record { room = fk.room; small = omega arith }
 
 pub branch-overflow_add-self : goal.branch-overflow_add-self
 branch-overflow_add-self g t c =
@@ -147,7 +148,7 @@ pub branch-returns-else-first : goal.branch-returns-else-first
 branch-returns-else-first g t c = done.no_done _ g.met.K.Kind.lawful _ c.requires.ready c.requires.step c.work-next.ensures c.cell.ensures c.truth-first.ensures c.if-first.false c.part_ways.ensures c.skip-second.ensures.end c.skip-second.ensures.places c.work.ensures
 
 pub work-returns-in_default : goal.work-returns-in_default
-work-returns-in_default g t c = done.blank_done _ g.met.K.Kind.lawful _ c.requires.ready (sym c.in_default.ensures) c.link_row.ensures (ready.deep_ready _ _ c.requires.ready)
+work-returns-in_default g t c = done.blank_done _ g.met.K.Kind.lawful _ c.requires.ready (sym c.in_default.ensures) c.link_row.ensures (omega (arith, some_depth))
 
 pub work-returns-in-Literal : goal.work-returns-in-Literal
 work-returns-in-Literal g t c = done.leaf_done _ g.met.K.Kind.lawful _ c.requires.ready c.in-Some.e (done.is_leaf c.in-Some.e c.in-Literal.is) c.in-Some.ensures c.leaf.ensures (c.parts_start.ensures ∙ ap (λ (v : ℕ). start v c.args.task.at c.in-Some.e) c.width.ensures.is)
