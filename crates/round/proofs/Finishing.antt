@@ -52,7 +52,6 @@ module _ {V : Type 0} (k : Meaning V) (lawful : Lawful k) (x : Inputs) where
     unfolding work
     blank_done {t} e h one =
         let p = x.program.now in
-        let c = r.cells_are in
         let w = narrow_row k x m.rows r.wide in
         let is : rd d from ≡ (link, from) = blank (shown p).shape.width (shown p).block (rows p) d from e in
         subst (Worked k x flags f base m (with_rows m t) from) (sym is)
@@ -124,8 +123,6 @@ module _ {V : Type 0} (k : Meaning V) (lawful : Lawful k) (x : Inputs) where
         → Worked k x flags f base m (with_rows m t) end (rd d from)
     leaf_done st {t} {end} leaf e h ends =
         let o = opened k x flags f base d from m r st e in
-        let c = r.cells_are in
-        let one = o.deep_enough in
         let w = narrow_row k x m.rows r.wide in
         subst (Worked k x flags f base m (with_rows m t) end) (sym o.is)
         (leaf_worked k lawful x flags f base m t h.cells (by (d - 1) from st) end (ends ∙ leaf_ends st leaf) (leaf_places st leaf) h.laid h.wide (omega arith)
@@ -137,10 +134,6 @@ module _ {V : Type 0} (k : Meaning V) (lawful : Lawful k) (x : Inputs) where
     compute_done st {c} {s} {end} {n} {t} co e cs ss a laid =
         let o = opened k x flags f base d from m r st e in
         let l = left k x a in
-        let lw = l.width in
-        let ll = l.long in
-        let cells = r.cells_are in
-        let one = o.deep_enough in
         let wi = r.wide in
         let w = narrow_row k x m.rows wi in
         let same : listed (rd (d - 1)) c s ≡ listed (rd (d - 1)) (count_in (rows x.program.now) st) (start (shown x.program.now).shape.width from st) = λ i. listed (rd (d - 1)) (cs i) (ss i) in
@@ -153,9 +146,6 @@ module _ {V : Type 0} (k : Meaning V) (lawful : Lawful k) (x : Inputs) where
         → Worked k x flags f base m (with_rows o t) end (rd d from)
     bind_done {f'} {top} {next} {end} {n} {o} {t} e tops ln a b laid =
         let op = opened k x flags f base d from m r Let e in
-        let lw = a.kept.width in
-        let cells = r.cells_are in
-        let one = op.deep_enough in
         let w = narrow_row k x m.rows r.wide in
         subst (Worked k x flags f base m (with_rows o t) end) (sym op.is)
         (bind_worked k lawful x flags f f' base top m n o t (rd (d - 1) (from + 1)) (rd (d - 1) (rd (d - 1) (from + 1)).1) next end (omega arith) r.below ln (omega arith) a
@@ -172,8 +162,6 @@ module _ {V : Type 0} (k : Meaning V) (lawful : Lawful k) (x : Inputs) where
         let op = opened k x flags f base d from m r (Call i) e in
         let few = called_few x i hs in
         let lw = a.kept.width in
-        let cells = r.cells_are in
-        let one = op.deep_enough in
         let w = narrow_row k x m.rows r.wide in
         let most = row_after_most n.rows.width base c (omega arith) in
         let least = row_after_least n.rows.width base c in
@@ -200,10 +188,6 @@ module _ {V : Type 0} (k : Meaning V) (lawful : Lawful k) (x : Inputs) where
         let s = spread k x r st se e counts a in
         let c = count - 1 in
         let cs : c ≡ part_count 0 st - 1 = ap (λ (z : ℕ). z - 1) counts in
-        let lw = a.kept.width in
-        let sw = rec.laid.width in
-        let cells = r.cells_are in
-        let one = op.deep_enough in
         let w = narrow_row k x m.rows r.wide in
         let same : listed (rd (d - 1)) c next ≡ listed (rd (d - 1)) (part_count 0 st - 1) (rd (d - 1) (from + 1)).1 = λ i. listed (rd (d - 1)) (cs i) (a.end_is i) in
         subst (Worked k x flags f base m (machine t' out c' (here + 1)) end) (sym op.is)
@@ -260,7 +244,6 @@ module _ {V : Type 0} (k : Meaning V) (lawful : Lawful k) (x : Inputs) where
       → WorkedAll k x flags f base m o end (listed (rd d) c from)
   next_done {flags} {f} {base} {top} {d} {c = zero} {from} {next} {end} {m} {n} {o} r h tops a b = absurd (omega arith)
   next_done {flags} {f} {base} {top} {d} {c = suc c} {from} {next} {end} {m} {n} {o} r h tops a b =
-      let lw = a.kept.width in
       let one : suc c - 1 ≡ c = omega arith in
       let same : listed (rd d) (suc c - 1) next ≡ listed (rd d) c (rd d from).1 = λ i. listed (rd d) (one i) (a.end_is i) in
       next_worked k lawful x flags f base top m n o (rd d from) (listed (rd d) c (rd d from).1) next end (omega arith) r.below a (subst (WorkedAll k x flags f top n o end) same b)

@@ -103,8 +103,6 @@ module _ {V : Type 0} (k : Meaning V) (x : Inputs) where
       → base' + cells' ≤ length m.rows.cells.now → f'.count + d' ≤ 40 → Below f' base' m.rows.width → m'.output.len + heavy' ≤ length m'.output.bytes.now → length flags' ≡ 16
       → Ready k x flags' d' from' base' f' m' cells' deep' many' heavy'
   ready_with {m = m} r flags' d' from' base' f' m' cells' deep' many' heavy' near lower deep_is few same long cells names below room flags_are =
-      let w = r.wide in
-      let c = r.cells_few in
       record {
         width = r.width;
         near = near;
@@ -142,7 +140,6 @@ module _ {V : Type 0} (k : Meaning V) (x : Inputs) where
   pub opened : (flags : List Bool) (f : Frame) (base d from : ℕ) (m : Machine V) → ReadyOne k x flags f base d from m → (st : Expression) → Some st ≡ expression_at (shown x.program.now).block from → Opened d from st
   opened flags f base d from m r st e =
       let s = some_depth (rd d from).0 in
-      let t = r.deep_is in
       let p = x.program.now in
       let one : 1 ≤ d = omega arith in
       record {
@@ -178,18 +175,6 @@ module _ {V : Type 0} (k : Meaning V) (x : Inputs) where
       let o = opened flags f base d from m r st e in
       let q = ready_by flags f base d from m r st o in
       let z = first_sizes (d - 1) from st s in
-      let z0 = z.0 in
-      let z1 = z.1 in
-      let z2 = z.2 in
-      let z3 = z.3 in
-      let one = o.deep_enough in
-      let near = o.near in
-      let deep_is = q.deep_is in
-      let few = q.few in
-      let cells = q.cells_are in
-      let names = q.names in
-      let shallow = q.shallow in
-      let room = q.room in
       ready_with q flags (d - 1) (from + 1) base f m (162 * (d - 1)) (depth (rd (d - 1) (from + 1)).0) (places (rd (d - 1) (from + 1)).0) (weight k.width (rd (d - 1) (from + 1)).0)
       (omega arith) (omega arith) (omega arith) (omega arith) refl refl (omega arith) (omega arith) q.below (omega arith) q.flags_are
 
@@ -206,10 +191,6 @@ module _ {V : Type 0} (k : Meaning V) (x : Inputs) where
   pub head_ready : {flags : List Bool} {f : Frame} {base d c from : ℕ} {m : Machine V} → 1 ≤ c → ReadyAll k x flags f base d c from m → ReadyOne k x flags f base d from m
   head_ready {flags} {f} {base} {d} {c} {from} {m} h r =
       let q = all_by flags f base d c from m h r in
-      let deep_is = q.deep_is in
-      let few = q.few in
-      let cells = q.cells_are in
-      let room = q.room in
       ready_with q flags d from base f m (162 * d) (depth (rd d from).0) (places (rd d from).0) (weight k.width (rd d from).0)
       q.near (omega arith) (omega arith) (omega arith) refl refl (omega arith) q.names q.below (omega arith) q.flags_are
 
@@ -218,18 +199,10 @@ module _ {V : Type 0} (k : Meaning V) (x : Inputs) where
       → ReadyAll k x flags f top d (c - 1) next (machine n.rows n.output n.cursors here)
   tail_ready {flags} {f} {base} {top} {d} {c} {from} {next} {here} {m} {n} h r tops heres a =
       let q = all_by flags f base d c from m h r in
-      let deep_is = q.deep_is in
-      let few = q.few in
-      let cells = q.cells_are in
-      let room = q.room in
       let w = a.kept.width in
       let l = a.kept.long in
       let wide_is = q.wide in
       let nar = narrow_row m.rows wide_is in
-      let pl = a.place_is in
-      let lt = a.light in
-      let ti = a.wrote.grown.top_is in
-      let ro = a.wrote.grown.room in
       let en = a.end_is in
       let near = near_in x.program.now d from q.near in
       let es = listed (rd d) (c - 1) next in
@@ -269,18 +242,6 @@ module _ {V : Type 0} (k : Meaning V) (x : Inputs) where
       let o = opened flags f base d from m r st e in
       let q = ready_by flags f base d from m r st o in
       let z = parts_sizes (d - 1) from st ga in
-      let z0 = z.0 in
-      let z1 = z.1 in
-      let z2 = z.2 in
-      let z3 = z.3 in
-      let one = o.deep_enough in
-      let near = o.near in
-      let deep_is = q.deep_is in
-      let few = q.few in
-      let cells = q.cells_are in
-      let names = q.names in
-      let shallow = q.shallow in
-      let room = q.room in
       let es = listed (rd (d - 1)) c s in
       let same : es ≡ parts_in (d - 1) from st = λ i. listed (rd (d - 1)) (cs i) (ss i) in
       let s1 = ap (λ (y : Exprs × ℕ). depth_all y.0) same in
@@ -308,23 +269,12 @@ module _ {V : Type 0} (k : Meaning V) (x : Inputs) where
   second_ready {flags} {f} {f'} {base} {top} {d} {from} {next} {here} {m} {n} r e tops heres ln a =
       let o = opened flags f base d from m r Let e in
       let q = ready_by flags f base d from m r Let o in
-      let one = o.deep_enough in
       let near = near_in x.program.now (d - 1) (from + 1) o.near in
       let en = a.end_is in
       let l = left a in
-      let l1 = l.place_is in
       let l2 = l.width in
       let l3 = l.long in
-      let l4 = l.out in
-      let l5 = l.out_long in
-      let deep_is = q.deep_is in
-      let few = q.few in
-      let cells = q.cells_are in
-      let names = q.names in
-      let shallow = q.shallow in
-      let room = q.room in
       let w = narrow_row m.rows q.wide in
-      let lc = ln.count in
       let e1 = ap (λ (z : ℕ). depth (rd (d - 1) z).0) en in
       let e2 = ap (λ (z : ℕ). places (rd (d - 1) z).0) en in
       let e3 = ap (λ (z : ℕ). weight k.width (rd (d - 1) z).0) en in
@@ -335,7 +285,6 @@ module _ {V : Type 0} (k : Meaning V) (x : Inputs) where
   pub arguments_below : (f : Frame) (w base c : ℕ) → Arguments f w base c → Below f (row_after w base c) w
   arguments_below f w base c a = record {
     rows = λ i h.
-        let n = a.count in
         let e = a.rows i (omega arith) in
         let b = row_after_below w base c i (omega arith) in
         omega arith;
@@ -352,24 +301,13 @@ module _ {V : Type 0} (k : Meaning V) (x : Inputs) where
       let calls : called ≡ (named (rows x.program.now) i).start = ap (λ (g : Function). g.start) hs in
       let o = opened flags f base d from m r (Call i) e in
       let q = ready_by flags f base d from m r (Call i) o in
-      let one = o.deep_enough in
       let near = placed x.program.now i in
       let few8 = few_parameters x.program.now i in
       let l = left a in
-      let l1 = l.place_is in
       let l2 = l.width in
       let l3 = l.long in
-      let l4 = l.out in
-      let l5 = l.out_long in
-      let deep_is = q.deep_is in
-      let few = q.few in
-      let cells = q.cells_are in
-      let names = q.names in
-      let shallow = q.shallow in
-      let room = q.room in
       let w = narrow_row m.rows q.wide in
       let most = row_after_most n.rows.width base c (omega arith) in
-      let count = ar.count in
       let same : listed (rd (d - 1)) c (from + 2) ≡ listed (rd (d - 1)) (named (rows x.program.now) i).parameters (from + 2) = ap (λ (z : ℕ). listed (rd (d - 1)) z (from + 2)) cs in
       let s2 = ap (λ (z : Exprs × ℕ). places_all z.0) same in
       let s3 = ap (λ (z : Exprs × ℕ). weight_all k.width z.0) same in
@@ -421,27 +359,14 @@ module _ {V : Type 0} (k : Meaning V) (x : Inputs) where
       let o = opened flags f base d from m r st e in
       let q = ready_by flags f base d from m r st o in
       let z = sends_sizes (d - 1) from st se in
-      let z0 = z.0 in
-      let z1 = z.1 in
-      let z2 = z.2 in
-      let z3 = z.3 in
-      let z4 = z.4 in
       let fs = (first_sizes (d - 1) from st (sends_first st se)).0 in
-      let near0 = o.near in
       let near = near_in x.program.now (d - 1) (from + 1) (omega arith) in
       let en = a.end_is in
       let l = left a in
-      let l1 = l.place_is in
       let l2 = l.width in
-      let l3 = l.long in
-      let l4 = l.out in
-      let l5 = l.out_long in
-      let deep_is = q.deep_is in
-      let few = q.few in
       let cells = q.cells_are in
       let cells_few = q.cells_few in
       let room = q.room in
-      let wi = q.wide in
       let w = narrow_row m.rows q.wide in
       let same : listed (rd (d - 1)) c next ≡ listed (rd (d - 1)) (part_count 0 st - 1) (rd (d - 1) (from + 1)).1 = λ i. listed (rd (d - 1)) (cs i) (en i) in
       let s1 = ap (λ (y : Exprs × ℕ). depth_all y.0) same in
@@ -467,20 +392,6 @@ module _ {V : Type 0} (k : Meaning V) (x : Inputs) where
       → Longer f f' base → top ≡ base + t.width → Kept n.rows t base → mid ≡ n.place
       → ReadyAll k x flags f' top (d - 1) c next (machine t n.output n.cursors mid)
   sent_ready {flags} {f} {f'} {base} {top} {d} {from} {next} {c} {mid} {m} {n} {t} r s ln tops kept mids =
-      let w = kept.width in
-      let l = kept.long in
-      let lc = ln.count in
-      let sw = s.width in
-      let sn = s.narrow_is in
-      let sc = s.cells in
-      let sf = s.cells_few in
-      let sp = s.places_few in
-      let sd = s.depth_few in
-      let sr = s.room in
-      let s2 = s.count_few in
-      let s1 = s.deep_enough in
-      let nm = s.names in
-      let wi = s.wide in
       record {
         width = r.width;
         near = s.near;
@@ -515,10 +426,6 @@ module _ {V : Type 0} (k : Meaning V) (x : Inputs) where
       let en = a.end_is in
       let near : next ≤ block_length + 17 = omega arith in
       let l = left a in
-      let l1 = l.place_is in
-      let l4 = l.out in
-      let l5 = l.out_long in
-      let few = q.few in
       let room = q.room in
       let e2 = ap (λ (z : ℕ). places (rd (d - 1) z).0) en in
       let e3 = ap (λ (z : ℕ). places (rd (d - 1) (rd (d - 1) z).1).0) en in
@@ -548,13 +455,6 @@ module _ {V : Type 0} (k : Meaning V) (x : Inputs) where
       let l = left a in
       let l2 = l.width in
       let l3 = l.long in
-      let l4 = l.out in
-      let l5 = l.out_long in
-      let deep_is = q.deep_is in
-      let cells = q.cells_are in
-      let names = q.names in
-      let shallow = q.shallow in
-      let room = q.room in
       ready_with q still (d - 1) from' base f n' (162 * (d - 1)) (depth (rd (d - 1) from').0) (places (rd (d - 1) from').0) (weight k.width (rd (d - 1) from').0)
       near (omega arith) (omega arith) pp (ap (λ (s : RowStack V). s.width) rows_same ∙ l2) (ap (λ (s : RowStack V). length s.cells.now) rows_same ∙ l3) (omega arith) (omega arith) q.below (omega arith) long
 
@@ -564,7 +464,6 @@ module _ {V : Type 0} (k : Meaning V) (x : Inputs) where
   yes_ready {flags} {still} {f} {base} {d} {from} {next} {here} {m} {n} {out} {c'} {first} r e a p heres =
       let fk = forked r e a in
       let en = a.end_is in
-      let pf = fk.places_few in
       let e1 = ap (λ (z : ℕ). depth (rd (d - 1) z).0) en in
       let e3 = ap (λ (z : ℕ). weight k.width (rd (d - 1) z).0) en in
       branch_ready flags still f base d from next next here m n (machine n.rows out c' here) r e a p.long refl p.wrote.grown.top_is p.wrote.grown.room fk.near (omega arith) (omega arith) (omega arith)
@@ -575,10 +474,8 @@ module _ {V : Type 0} (k : Meaning V) (x : Inputs) where
       → ReadyOne k x still f base (d - 1) second (machine n.rows out c' here)
   no_ready {flags} {still} {f} {base} {d} {from} {next} {second} {inside} {here} {m} {n} {out} {c'} {first} r e a p seconds ins heres =
       let fk = forked r e a in
-      let ns = fk.near_second in
       let en = a.end_is in
       let sc : second ≡ (rd (d - 1) (rd (d - 1) (from + 1)).1).1 = seconds ∙ ap (λ (z : ℕ). (rd (d - 1) z).1) en in
-      let pf = fk.places_few in
       let e1 = ap (λ (z : ℕ). depth (rd (d - 1) z).0) sc in
       let e2 = ap (λ (z : ℕ). places (rd (d - 1) z).0) seconds in
       let e3 = ap (λ (z : ℕ). weight k.width (rd (d - 1) z).0) sc in
