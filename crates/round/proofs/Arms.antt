@@ -44,6 +44,9 @@ outcome_low Link top w = (refl, omega arith)
 outcome_low Own top w = (refl, omega arith)
 outcome_low Choose top w = (refl, omega arith)
 
+pub found_low : (st : Expression) (top w : ℕ) {found : ℕ × ℕ} → found ≡ outcome_rows st top w → (found.0 ≡ top) × (found.1 ≤ top + w)
+found_low st top w e = subst (λ (p : ℕ × ℕ). (p.0 ≡ top) × (p.1 ≤ top + w)) (sym e) (outcome_low st top w)
+
 -- the machine with other rows
 abbrev pub with_rows : {V : Type 0} → Machine V → RowStack V → Machine V
 with_rows m t = machine t m.output m.cursors m.place
@@ -92,8 +95,6 @@ module _ {V : Type 0} (k : Meaning V) (lawful : Lawful k) (x : Inputs) (flags : 
     means = λ g env al gi fr fl st.
         let A = a.means g env al gi fr fl st in
         let B = b.means g env al gi (framed_kept k g fr lo a.kept) fl A.stands in
-        let w = a.kept.width in
-        let w' = b.kept.width in
         let here : row o.rows base ≡ row n.rows base = row_kept base b.kept (omega arith) in
         let top_is : top ≡ base + o.rows.width = omega arith in
         record {
@@ -228,10 +229,6 @@ module _ {V : Type 0} (k : Meaning V) (lawful : Lawful k) (x : Inputs) (flags : 
       → Worked k x flags f base m (with_rows o t) end (bind ea.0 eb.0, eb.1)
   unfolding work
   bind_worked f f' base top m n o t ea eb next end tops lo ln room a b laid =
-      let w = a.kept.width in
-      let w' = b.kept.width in
-      let l = a.kept.long in
-      let l' = b.kept.long in
       let wide = row_long o.rows top (omega arith) in
       record {
         end_is = b.end_is;
@@ -271,9 +268,6 @@ module _ {V : Type 0} (k : Meaning V) (lawful : Lawful k) (x : Inputs) (flags : 
   unfolding work
   call_worked f f' base top c m n o t es eb end end' cs ar up room below a b laid =
       let w = a.kept.width in
-      let w' = b.kept.width in
-      let l = a.kept.long in
-      let l' = b.kept.long in
       let wide = row_long o.rows top (omega arith) in
       record {
         end_is = a.end_is;
@@ -286,7 +280,6 @@ module _ {V : Type 0} (k : Meaning V) (lawful : Lawful k) (x : Inputs) (flags : 
             let A = a.means g env al gi fr fl st in
             let vs = (work_all k g es.0 env al m.place).values in
             let many : length vs ≡ c = values_long g es.0 env al m.place ∙ sym cs in
-            let cf = ar.count in
             let framed : Framed k g f' n.rows vs = record {
               count_is = omega arith;
               rows = λ i h. ap (row n.rows) (ar.rows i (omega arith) ∙ ap (λ (v : ℕ). row_after v base i) (sym w)) ∙ row_nth n.rows base g (everywhere k.own) vs i h A.rows;
@@ -315,7 +308,6 @@ module _ {V : Type 0} (k : Meaning V) (lawful : Lawful k) (x : Inputs) (flags : 
     yes_worked o mid end on is parted b on-is ends =
         let five : length (written_record k (choice n.place true)) ≡ 5 = refl in
         let p = a.place_is in
-        let q = b.place_is in
         record {
           end_is = ends;
           place_is = omega arith;
@@ -325,8 +317,6 @@ module _ {V : Type 0} (k : Meaning V) (lawful : Lawful k) (x : Inputs) (flags : 
           light =
               let j = length-append a.bytes (written_record k (choice n.place true) ++ b.bytes) in
               let i = length-append (written_record k (choice n.place true)) b.bytes in
-              let la = a.light in
-              let lb = b.light in
               omega arith;
           means = λ g env al gi fr fl st.
               let A = a.means g env al gi fr fl st in
@@ -355,7 +345,6 @@ module _ {V : Type 0} (k : Meaning V) (lawful : Lawful k) (x : Inputs) (flags : 
     no_worked o end here is parted here-is b =
         let five : length (written_record k (choice n.place false)) ≡ 5 = refl in
         let p = a.place_is in
-        let q = b.place_is in
         record {
           end_is = b.end_is;
           place_is = omega arith;
@@ -365,8 +354,6 @@ module _ {V : Type 0} (k : Meaning V) (lawful : Lawful k) (x : Inputs) (flags : 
           light =
               let j = length-append a.bytes (written_record k (choice n.place false) ++ b.bytes) in
               let i = length-append (written_record k (choice n.place false)) b.bytes in
-              let la = a.light in
-              let lb = b.light in
               omega arith;
           means = λ g env al gi fr fl st.
               let A = a.means g env al gi fr fl st in
@@ -413,16 +400,10 @@ module _ {V : Type 0} (k : Meaning V) (lawful : Lawful k) (x : Inputs) (flags : 
         ≡ written_records k (work k g e.0 env al p).records)
         → Worked k x flags f base m (machine t' out c' (here + 1)) end e
     exchange_worked f f' base top returned sent here m n o t t' out c' next end v ps ends sum-places sum-weight q-is tops lo wide ln room room' here-is a read rec b handed rows-hyp value-hyp records-hyp =
-        let w = a.kept.width in
-        let l = a.kept.long in
-        let pa = a.place_is in
-        let pb = b.place_is in
         let kept-rec = laid_kept rec.laid (omega arith) rec.wide in
         let kept_in : Kept m.rows t base = kept_then a.kept kept-rec (omega arith) in
         let w1 = kept-rec.width in
         let l1 = kept-rec.long in
-        let w2 = b.kept.width in
-        let l2 = b.kept.long in
         let wide_back = row_long o.rows returned (omega arith) in
         record {
           end_is = b.end_is ∙ ends;
@@ -433,9 +414,6 @@ module _ {V : Type 0} (k : Meaning V) (lawful : Lawful k) (x : Inputs) (flags : 
           light =
               let i = length-append a.bytes (b.bytes ++ handed.bytes) in
               let j = length-append b.bytes handed.bytes in
-              let la = a.light in
-              let lb = b.light in
-              let lh = handed.light in
               omega arith;
           means = λ g env al gi fr fl st.
               let A = a.means g env al gi fr fl st in

@@ -124,7 +124,6 @@ module _ {V : Type 0} (k : Meaning V) (bs : List ℕ) where
     from_values : (s at : ℕ) (vs : List V) → readings_from k s at bs ≡ Ok vs → length bs ≡ at + s * k.width → (n : ℕ) → unwrap_or (k.read (part bs (at + n * k.width) k.width)) k.own ≡ get_or vs n k.own
     from_values zero at vs e l n =
         let none : vs ≡ [] = sym (ok_same [] vs e) in
-        let w = lawful.some in
         let z = zero-mul k.width in
         let short = part_short (at + n * k.width) (omega arith) in
         short_read (part bs (at + n * k.width) k.width) (λ q. omega (arith, q)) ∙ ap (λ (xs : List V). get_or xs n k.own) (sym none)

@@ -3,6 +3,7 @@ use Rattle.std.proofs.Common.{◌≡◌, ℕ, zero, suc, ◌+◌, ◌-◌, ◌*�
 use Rattle.kind.specs.Kind.{Meaning}
 use Rattle.program.specs.declared.expression.Expression.{Expression}
 use Rattle.program.specs.declared.expression.Expression.TheVariants.{Literal, Variable, Let, Operator, Fold, Exchange, Share, If, Call, Sensor, Link, Own, Choose}
+use Rattle.program.specs.declared.function.Function.{Function}
 use Rattle.program.specs.Expressions.{Expr, Exprs, then}
 use Rattle.program.specs.Measures.{depth, depth_all, places, places_all, weight, weight_all, record_weight}
 use Rattle.program.specs.Programs.{shown}
@@ -25,6 +26,72 @@ use Rattle.steps.specs.Steps.{Computed, Parted, Sends}
 use Rattle.round.proofs.Rowing.{row_after_most, row_after_below}
 use Rattle.round.proofs.Stacks.{below_later, below_longer}
 
+-- the first part of a let, an exchange, a share or an if
+abbrev First : Expression → Type 0
+First (Literal i) = ⊥
+First (Variable i) = ⊥
+First Let = Unit {0}
+First (Operator i) = ⊥
+First (Fold i) = ⊥
+First Exchange = Unit {0}
+First Share = Unit {0}
+First If = Unit {0}
+First (Call i) = ⊥
+First (Sensor i) = ⊥
+First Link = ⊥
+First Own = ⊥
+First Choose = ⊥
+
+pub sends_first : (st : Expression) → Sends st → First st
+sends_first (Literal i) s = s
+sends_first (Variable i) s = s
+sends_first Let s = absurd s
+sends_first (Operator i) s = s
+sends_first (Fold i) s = s
+sends_first Exchange s = s
+sends_first Share s = s
+sends_first If s = absurd s
+sends_first (Call i) s = s
+sends_first (Sensor i) s = s
+sends_first Link s = s
+sends_first Own s = s
+sends_first Choose s = s
+
+-- its parts are rows that it is made of, or the arguments of a call
+abbrev Gathers : Expression → Type 0
+Gathers (Literal i) = ⊥
+Gathers (Variable i) = ⊥
+Gathers Let = ⊥
+Gathers (Operator i) = Unit {0}
+Gathers (Fold i) = Unit {0}
+Gathers Exchange = ⊥
+Gathers Share = ⊥
+Gathers If = ⊥
+Gathers (Call i) = Unit {0}
+Gathers (Sensor i) = ⊥
+Gathers Link = ⊥
+Gathers Own = Unit {0}
+Gathers Choose = Unit {0}
+
+pub gathers : (st : Expression) → Computed st → Gathers st
+gathers (Literal i) s = s
+gathers (Variable i) s = s
+gathers Let s = s
+gathers (Operator i) s = s
+gathers (Fold i) s = s
+gathers Exchange s = s
+gathers Share s = s
+gathers If s = s
+gathers (Call i) s = absurd s
+gathers (Sensor i) s = s
+gathers Link s = s
+gathers Own s = s
+gathers Choose s = s
+
+-- a function in the program has few parameters
+pub called_few : (x : Inputs) (i : ℕ) {h : Function} → h ≡ named (rows x.program.now) i → h.parameters ≤ 8
+called_few x i {h} e = let c = ap (λ (g : Function). g.parameters) e in let few = few_parameters x.program.now i in omega arith
+
 module _ {V : Type 0} (k : Meaning V) (x : Inputs) where
   abbrev block_length : ℕ
   block_length = length (shown x.program.now).block
@@ -36,8 +103,6 @@ module _ {V : Type 0} (k : Meaning V) (x : Inputs) where
       → base' + cells' ≤ length m.rows.cells.now → f'.count + d' ≤ 40 → Below f' base' m.rows.width → m'.output.len + heavy' ≤ length m'.output.bytes.now → length flags' ≡ 16
       → Ready k x flags' d' from' base' f' m' cells' deep' many' heavy'
   ready_with {m = m} r flags' d' from' base' f' m' cells' deep' many' heavy' near lower deep_is few same long cells names below room flags_are =
-      let w = r.wide in
-      let c = r.cells_few in
       record {
         width = r.width;
         near = near;
@@ -75,7 +140,6 @@ module _ {V : Type 0} (k : Meaning V) (x : Inputs) where
   pub opened : (flags : List Bool) (f : Frame) (base d from : ℕ) (m : Machine V) → ReadyOne k x flags f base d from m → (st : Expression) → Some st ≡ expression_at (shown x.program.now).block from → Opened d from st
   opened flags f base d from m r st e =
       let s = some_depth (rd d from).0 in
-      let t = r.deep_is in
       let p = x.program.now in
       let one : 1 ≤ d = omega arith in
       record {
@@ -84,30 +148,11 @@ module _ {V : Type 0} (k : Meaning V) (x : Inputs) where
         near = near_start (shown p).shape.width (shown p).block (rows p) (wide p) (narrow p) from st e r.near;
       }
 
-  pub deep_ready : (flags : List Bool) (f : Frame) (base d from : ℕ) (m : Machine V) → ReadyOne k x flags f base d from m → 1 ≤ d
-  deep_ready flags f base d from m r = let s = some_depth (rd d from).0 in let t = r.deep_is in omega arith
-
   -- ready for the expression as its parts show it
   pub ready_by : (flags : List Bool) (f : Frame) (base d from : ℕ) (m : Machine V) → ReadyOne k x flags f base d from m → (st : Expression) → Opened d from st
       → Ready k x flags d from base f m (162 * d) (depth (by (d - 1) from st).0) (places (by (d - 1) from st).0) (weight k.width (by (d - 1) from st).0)
   ready_by flags f base d from m r st o =
       subst (λ (e : Expr × ℕ). Ready k x flags d from base f m (162 * d) (depth e.0) (places e.0) (weight k.width e.0)) o.is r
-
-  -- the first part of a let, an exchange, a share or an if
-  abbrev First : Expression → Type 0
-  First (Literal i) = ⊥
-  First (Variable i) = ⊥
-  First Let = Unit {0}
-  First (Operator i) = ⊥
-  First (Fold i) = ⊥
-  First Exchange = Unit {0}
-  First Share = Unit {0}
-  First If = Unit {0}
-  First (Call i) = ⊥
-  First (Sensor i) = ⊥
-  First Link = ⊥
-  First Own = ⊥
-  First Choose = ⊥
 
   first_sizes : (d from : ℕ) (st : Expression) → First st → (start (shown x.program.now).shape.width from st ≡ from + 1) × (depth (rd d (from + 1)).0 + 1 ≤ depth (by d from st).0) × (places (rd d (from + 1)).0 ≤ places (by d from st).0) × (weight k.width (rd d (from + 1)).0 ≤ weight k.width (by d from st).0)
   first_sizes d from (Literal i) s = absurd s
@@ -124,24 +169,12 @@ module _ {V : Type 0} (k : Meaning V) (x : Inputs) where
   first_sizes d from Own s = absurd s
   first_sizes d from Choose s = absurd s
 
-  pub first_ready : (flags : List Bool) (f : Frame) (base d from : ℕ) (m : Machine V) → ReadyOne k x flags f base d from m → (st : Expression) → First st → Some st ≡ expression_at (shown x.program.now).block from
+  pub first_ready : {flags : List Bool} {f : Frame} {base d from : ℕ} {m : Machine V} → ReadyOne k x flags f base d from m → (st : Expression) → First st → Some st ≡ expression_at (shown x.program.now).block from
       → ReadyOne k x flags f base (d - 1) (from + 1) m
-  first_ready flags f base d from m r st s e =
+  first_ready {flags} {f} {base} {d} {from} {m} r st s e =
       let o = opened flags f base d from m r st e in
       let q = ready_by flags f base d from m r st o in
       let z = first_sizes (d - 1) from st s in
-      let z0 = z.0 in
-      let z1 = z.1 in
-      let z2 = z.2 in
-      let z3 = z.3 in
-      let one = o.deep_enough in
-      let near = o.near in
-      let deep_is = q.deep_is in
-      let few = q.few in
-      let cells = q.cells_are in
-      let names = q.names in
-      let shallow = q.shallow in
-      let room = q.room in
       ready_with q flags (d - 1) (from + 1) base f m (162 * (d - 1)) (depth (rd (d - 1) (from + 1)).0) (places (rd (d - 1) (from + 1)).0) (weight k.width (rd (d - 1) (from + 1)).0)
       (omega arith) (omega arith) (omega arith) (omega arith) refl refl (omega arith) (omega arith) q.below (omega arith) q.flags_are
 
@@ -155,33 +188,21 @@ module _ {V : Type 0} (k : Meaning V) (x : Inputs) where
   all_by flags f base d c from m h r =
       subst (λ (es : Exprs × ℕ). Ready k x flags d from base f m (18 * c + 162 * d) (depth_all es.0) (places_all es.0) (weight_all k.width es.0)) (listed_next d c from h) r
 
-  pub head_ready : (flags : List Bool) (f : Frame) (base d c from : ℕ) (m : Machine V) → 1 ≤ c → ReadyAll k x flags f base d c from m → ReadyOne k x flags f base d from m
-  head_ready flags f base d c from m h r =
+  pub head_ready : {flags : List Bool} {f : Frame} {base d c from : ℕ} {m : Machine V} → 1 ≤ c → ReadyAll k x flags f base d c from m → ReadyOne k x flags f base d from m
+  head_ready {flags} {f} {base} {d} {c} {from} {m} h r =
       let q = all_by flags f base d c from m h r in
-      let deep_is = q.deep_is in
-      let few = q.few in
-      let cells = q.cells_are in
-      let room = q.room in
       ready_with q flags d from base f m (162 * d) (depth (rd d from).0) (places (rd d from).0) (weight k.width (rd d from).0)
       q.near (omega arith) (omega arith) (omega arith) refl refl (omega arith) q.names q.below (omega arith) q.flags_are
 
-  pub tail_ready : (flags : List Bool) (f : Frame) (base top d c from next here : ℕ) (m n : Machine V) → 1 ≤ c → ReadyAll k x flags f base d c from m
+  pub tail_ready : {flags : List Bool} {f : Frame} {base top d c from next here : ℕ} {m n : Machine V} → 1 ≤ c → ReadyAll k x flags f base d c from m
       → top ≡ base + n.rows.width → here ≡ n.place → Worked k x flags f base m n next (rd d from)
       → ReadyAll k x flags f top d (c - 1) next (machine n.rows n.output n.cursors here)
-  tail_ready flags f base top d c from next here m n h r tops heres a =
+  tail_ready {flags} {f} {base} {top} {d} {c} {from} {next} {here} {m} {n} h r tops heres a =
       let q = all_by flags f base d c from m h r in
-      let deep_is = q.deep_is in
-      let few = q.few in
-      let cells = q.cells_are in
-      let room = q.room in
       let w = a.kept.width in
       let l = a.kept.long in
       let wide_is = q.wide in
       let nar = narrow_row m.rows wide_is in
-      let pl = a.place_is in
-      let lt = a.light in
-      let ti = a.wrote.grown.top_is in
-      let ro = a.wrote.grown.room in
       let en = a.end_is in
       let near = near_in x.program.now d from q.near in
       let es = listed (rd d) (c - 1) next in
@@ -193,36 +214,6 @@ module _ {V : Type 0} (k : Meaning V) (x : Inputs) where
       (omega arith) (omega arith) (omega arith) (omega arith) w l (omega arith) q.names (below_later top m.rows.width q.below (omega arith) refl) (omega arith) q.flags_are
 
   -- PARTS OF AN EXPRESSION whose rows it is made of, and the arguments of a call
-  abbrev Gathers : Expression → Type 0
-  Gathers (Literal i) = ⊥
-  Gathers (Variable i) = ⊥
-  Gathers Let = ⊥
-  Gathers (Operator i) = Unit {0}
-  Gathers (Fold i) = Unit {0}
-  Gathers Exchange = ⊥
-  Gathers Share = ⊥
-  Gathers If = ⊥
-  Gathers (Call i) = Unit {0}
-  Gathers (Sensor i) = ⊥
-  Gathers Link = ⊥
-  Gathers Own = Unit {0}
-  Gathers Choose = Unit {0}
-
-  pub gathers : (st : Expression) → Computed st → Gathers st
-  gathers (Literal i) s = s
-  gathers (Variable i) s = s
-  gathers Let s = s
-  gathers (Operator i) s = s
-  gathers (Fold i) s = s
-  gathers Exchange s = s
-  gathers Share s = s
-  gathers If s = s
-  gathers (Call i) s = absurd s
-  gathers (Sensor i) s = s
-  gathers Link s = s
-  gathers Own s = s
-  gathers Choose s = s
-
   abbrev parts_in : ℕ → ℕ → Expression → Exprs × ℕ
   parts_in d from st = listed (rd d) (count_in (rows x.program.now) st) (start (shown x.program.now).shape.width from st)
 
@@ -241,28 +232,16 @@ module _ {V : Type 0} (k : Meaning V) (x : Inputs) where
   parts_sizes d from Own s = (omega arith, omega arith, omega arith, omega arith)
   parts_sizes d from Choose s = (omega arith, omega arith, omega arith, omega arith)
 
-  pub parts_few : (st : Expression) → Gathers st → (c : ℕ) → c ≡ count_in (rows x.program.now) st → c ≤ 8
-  parts_few st s c e = let z = (parts_sizes 0 0 st s).3 in omega arith
+  pub parts_few : (st : Expression) → Gathers st → {c : ℕ} → c ≡ count_in (rows x.program.now) st → c ≤ 8
+  parts_few st s {c} e = let z = (parts_sizes 0 0 st s).3 in omega arith
 
-  pub parts_ready : (flags : List Bool) (f : Frame) (base d from c s : ℕ) (m : Machine V) → ReadyOne k x flags f base d from m → (st : Expression) → Gathers st → Some st ≡ expression_at (shown x.program.now).block from
+  pub parts_ready : {flags : List Bool} {f : Frame} {base d from c s : ℕ} {m : Machine V} → ReadyOne k x flags f base d from m → (st : Expression) → Gathers st → Some st ≡ expression_at (shown x.program.now).block from
       → c ≡ count_in (rows x.program.now) st → s ≡ start (shown x.program.now).shape.width from st
       → ReadyAll k x flags f base (d - 1) c s m
-  parts_ready flags f base d from c s m r st ga e cs ss =
+  parts_ready {flags} {f} {base} {d} {from} {c} {s} {m} r st ga e cs ss =
       let o = opened flags f base d from m r st e in
       let q = ready_by flags f base d from m r st o in
       let z = parts_sizes (d - 1) from st ga in
-      let z0 = z.0 in
-      let z1 = z.1 in
-      let z2 = z.2 in
-      let z3 = z.3 in
-      let one = o.deep_enough in
-      let near = o.near in
-      let deep_is = q.deep_is in
-      let few = q.few in
-      let cells = q.cells_are in
-      let names = q.names in
-      let shallow = q.shallow in
-      let room = q.room in
       let es = listed (rd (d - 1)) c s in
       let same : es ≡ parts_in (d - 1) from st = λ i. listed (rd (d - 1)) (cs i) (ss i) in
       let s1 = ap (λ (y : Exprs × ℕ). depth_all y.0) same in
@@ -284,29 +263,18 @@ module _ {V : Type 0} (k : Meaning V) (x : Inputs) where
   left a = let t = a.wrote.grown.top_is in let l = a.light in record { place_is = a.place_is; width = a.kept.width; long = a.kept.long; out = omega arith; out_long = a.wrote.grown.room }
 
   -- LET: the second part
-  pub second_ready : (flags : List Bool) (f f' : Frame) (base top d from next here : ℕ) (m n : Machine V) → ReadyOne k x flags f base d from m → Some Let ≡ expression_at (shown x.program.now).block from
+  pub second_ready : {flags : List Bool} {f f' : Frame} {base top d from next here : ℕ} {m n : Machine V} → ReadyOne k x flags f base d from m → Some Let ≡ expression_at (shown x.program.now).block from
       → top ≡ base + n.rows.width → here ≡ n.place → Longer f f' base → Worked k x flags f base m n next (rd (d - 1) (from + 1))
       → ReadyOne k x flags f' top (d - 1) next (machine n.rows n.output n.cursors here)
-  second_ready flags f f' base top d from next here m n r e tops heres ln a =
+  second_ready {flags} {f} {f'} {base} {top} {d} {from} {next} {here} {m} {n} r e tops heres ln a =
       let o = opened flags f base d from m r Let e in
       let q = ready_by flags f base d from m r Let o in
-      let one = o.deep_enough in
       let near = near_in x.program.now (d - 1) (from + 1) o.near in
       let en = a.end_is in
       let l = left a in
-      let l1 = l.place_is in
       let l2 = l.width in
       let l3 = l.long in
-      let l4 = l.out in
-      let l5 = l.out_long in
-      let deep_is = q.deep_is in
-      let few = q.few in
-      let cells = q.cells_are in
-      let names = q.names in
-      let shallow = q.shallow in
-      let room = q.room in
       let w = narrow_row m.rows q.wide in
-      let lc = ln.count in
       let e1 = ap (λ (z : ℕ). depth (rd (d - 1) z).0) en in
       let e2 = ap (λ (z : ℕ). places (rd (d - 1) z).0) en in
       let e3 = ap (λ (z : ℕ). weight k.width (rd (d - 1) z).0) en in
@@ -317,38 +285,29 @@ module _ {V : Type 0} (k : Meaning V) (x : Inputs) where
   pub arguments_below : (f : Frame) (w base c : ℕ) → Arguments f w base c → Below f (row_after w base c) w
   arguments_below f w base c a = record {
     rows = λ i h.
-        let n = a.count in
         let e = a.rows i (omega arith) in
         let b = row_after_below w base c i (omega arith) in
         omega arith;
   }
 
-  pub body_ready : (flags : List Bool) (f f' : Frame) (base top d from c i called end here : ℕ) (m n : Machine V) → ReadyOne k x flags f base d from m → Some (Call i) ≡ expression_at (shown x.program.now).block from
-      → c ≡ (named (rows x.program.now) i).parameters → called ≡ (named (rows x.program.now) i).start
-      → top ≡ row_after n.rows.width base c → here ≡ n.place → Arguments f' n.rows.width base c
-      → WorkedAll k x flags f base m n end (listed (rd (d - 1)) c (from + 2))
-      → ReadyOne k x flags f' top (d - 1) called (machine n.rows n.output n.cursors here)
-  body_ready flags f f' base top d from c i called end here m n r e cs calls tops heres ar a =
+  pub body_ready : {flags : List Bool} {f f' : Frame} {base top d from i end here : ℕ} {h : Function} {m n : Machine V} → ReadyOne k x flags f base d from m → Some (Call i) ≡ expression_at (shown x.program.now).block from
+      → h ≡ named (rows x.program.now) i → top ≡ row_after n.rows.width base h.parameters → here ≡ n.place → Arguments f' n.rows.width base h.parameters
+      → WorkedAll k x flags f base m n end (listed (rd (d - 1)) h.parameters (from + 2))
+      → ReadyOne k x flags f' top (d - 1) h.start (machine n.rows n.output n.cursors here)
+  body_ready {flags} {f} {f'} {base} {top} {d} {from} {i} {end} {here} {h} {m} {n} r e hs tops heres ar a =
+      let c = h.parameters in
+      let called = h.start in
+      let cs : c ≡ (named (rows x.program.now) i).parameters = ap (λ (g : Function). g.parameters) hs in
+      let calls : called ≡ (named (rows x.program.now) i).start = ap (λ (g : Function). g.start) hs in
       let o = opened flags f base d from m r (Call i) e in
       let q = ready_by flags f base d from m r (Call i) o in
-      let one = o.deep_enough in
       let near = placed x.program.now i in
       let few8 = few_parameters x.program.now i in
       let l = left a in
-      let l1 = l.place_is in
       let l2 = l.width in
       let l3 = l.long in
-      let l4 = l.out in
-      let l5 = l.out_long in
-      let deep_is = q.deep_is in
-      let few = q.few in
-      let cells = q.cells_are in
-      let names = q.names in
-      let shallow = q.shallow in
-      let room = q.room in
       let w = narrow_row m.rows q.wide in
       let most = row_after_most n.rows.width base c (omega arith) in
-      let count = ar.count in
       let same : listed (rd (d - 1)) c (from + 2) ≡ listed (rd (d - 1)) (named (rows x.program.now) i).parameters (from + 2) = ap (λ (z : ℕ). listed (rd (d - 1)) z (from + 2)) cs in
       let s2 = ap (λ (z : Exprs × ℕ). places_all z.0) same in
       let s3 = ap (λ (z : Exprs × ℕ). weight_all k.width z.0) same in
@@ -376,21 +335,6 @@ module _ {V : Type 0} (k : Meaning V) (x : Inputs) where
   sends_sizes d from Own s = absurd s
   sends_sizes d from Choose s = absurd s
 
-  pub sends_first : (st : Expression) → Sends st → First st
-  sends_first (Literal i) s = s
-  sends_first (Variable i) s = s
-  sends_first Let s = absurd s
-  sends_first (Operator i) s = s
-  sends_first (Fold i) s = s
-  sends_first Exchange s = s
-  sends_first Share s = s
-  sends_first If s = absurd s
-  sends_first (Call i) s = s
-  sends_first (Sensor i) s = s
-  sends_first Link s = s
-  sends_first Own s = s
-  sends_first Choose s = s
-
   -- the numbers that an exchange needs of its parts
   pub record Spread (flags : List Bool) (f : Frame) (base d from next c : ℕ) (m n : Machine V) : Type 0 where
     pub deep_enough : 1 ≤ d
@@ -407,33 +351,22 @@ module _ {V : Type 0} (k : Meaning V) (x : Inputs) where
     pub names : f.count + d ≤ 40
     pub below : Below f base m.rows.width
 
-  pub spread : (flags : List Bool) (f : Frame) (base d from next c : ℕ) (m n : Machine V) → ReadyOne k x flags f base d from m → (st : Expression) → Sends st → Some st ≡ expression_at (shown x.program.now).block from
-      → c ≡ part_count 0 st - 1 → Worked k x flags f base m n next (rd (d - 1) (from + 1)) → Spread flags f base d from next c m n
-  spread flags f base d from next c m n r st se e cs a =
+  pub spread : {flags : List Bool} {f : Frame} {base d from next count : ℕ} {m n : Machine V} → ReadyOne k x flags f base d from m → (st : Expression) → Sends st → Some st ≡ expression_at (shown x.program.now).block from
+      → count ≡ part_count 0 st → Worked k x flags f base m n next (rd (d - 1) (from + 1)) → Spread flags f base d from next (count - 1) m n
+  spread {flags} {f} {base} {d} {from} {next} {count} {m} {n} r st se e counts a =
+      let c = count - 1 in
+      let cs : c ≡ part_count 0 st - 1 = ap (λ (z : ℕ). z - 1) counts in
       let o = opened flags f base d from m r st e in
       let q = ready_by flags f base d from m r st o in
       let z = sends_sizes (d - 1) from st se in
-      let z0 = z.0 in
-      let z1 = z.1 in
-      let z2 = z.2 in
-      let z3 = z.3 in
-      let z4 = z.4 in
       let fs = (first_sizes (d - 1) from st (sends_first st se)).0 in
-      let near0 = o.near in
       let near = near_in x.program.now (d - 1) (from + 1) (omega arith) in
       let en = a.end_is in
       let l = left a in
-      let l1 = l.place_is in
       let l2 = l.width in
-      let l3 = l.long in
-      let l4 = l.out in
-      let l5 = l.out_long in
-      let deep_is = q.deep_is in
-      let few = q.few in
       let cells = q.cells_are in
       let cells_few = q.cells_few in
       let room = q.room in
-      let wi = q.wide in
       let w = narrow_row m.rows q.wide in
       let same : listed (rd (d - 1)) c next ≡ listed (rd (d - 1)) (part_count 0 st - 1) (rd (d - 1) (from + 1)).1 = λ i. listed (rd (d - 1)) (cs i) (en i) in
       let s1 = ap (λ (y : Exprs × ℕ). depth_all y.0) same in
@@ -455,24 +388,10 @@ module _ {V : Type 0} (k : Meaning V) (x : Inputs) where
         below = q.below;
       }
 
-  pub sent_ready : (flags : List Bool) (f f' : Frame) (base top d from next c mid : ℕ) (m n : Machine V) (t : RowStack V) → ReadyOne k x flags f base d from m → Spread flags f base d from next c m n
+  pub sent_ready : {flags : List Bool} {f f' : Frame} {base top d from next c mid : ℕ} {m n : Machine V} {t : RowStack V} → ReadyOne k x flags f base d from m → Spread flags f base d from next c m n
       → Longer f f' base → top ≡ base + t.width → Kept n.rows t base → mid ≡ n.place
       → ReadyAll k x flags f' top (d - 1) c next (machine t n.output n.cursors mid)
-  sent_ready flags f f' base top d from next c mid m n t r s ln tops kept mids =
-      let w = kept.width in
-      let l = kept.long in
-      let lc = ln.count in
-      let sw = s.width in
-      let sn = s.narrow_is in
-      let sc = s.cells in
-      let sf = s.cells_few in
-      let sp = s.places_few in
-      let sd = s.depth_few in
-      let sr = s.room in
-      let s2 = s.count_few in
-      let s1 = s.deep_enough in
-      let nm = s.names in
-      let wi = s.wide in
+  sent_ready {flags} {f} {f'} {base} {top} {d} {from} {next} {c} {mid} {m} {n} {t} r s ln tops kept mids =
       record {
         width = r.width;
         near = s.near;
@@ -498,19 +417,15 @@ module _ {V : Type 0} (k : Meaning V) (x : Inputs) where
     pub places_sum : m.place + places (by (d - 1) from If).0 ≡ n.place + 1 + places (rd (d - 1) next).0 + places (rd (d - 1) (rd (d - 1) next).1).0
     pub is : by (d - 1) from If ≡ rd d from
 
-  pub forked : (flags : List Bool) (f : Frame) (base d from next : ℕ) (m n : Machine V) → ReadyOne k x flags f base d from m → Some If ≡ expression_at (shown x.program.now).block from
+  pub forked : {flags : List Bool} {f : Frame} {base d from next : ℕ} {m n : Machine V} → ReadyOne k x flags f base d from m → Some If ≡ expression_at (shown x.program.now).block from
       → Worked k x flags f base m n next (rd (d - 1) (from + 1)) → Forked d from next m n
-  forked flags f base d from next m n r e a =
+  forked {flags} {f} {base} {d} {from} {next} {m} {n} r e a =
       let o = opened flags f base d from m r If e in
       let q = ready_by flags f base d from m r If o in
       let near1 = near_in x.program.now (d - 1) (from + 1) o.near in
       let en = a.end_is in
       let near : next ≤ block_length + 17 = omega arith in
       let l = left a in
-      let l1 = l.place_is in
-      let l4 = l.out in
-      let l5 = l.out_long in
-      let few = q.few in
       let room = q.room in
       let e2 = ap (λ (z : ℕ). places (rd (d - 1) z).0) en in
       let e3 = ap (λ (z : ℕ). places (rd (d - 1) (rd (d - 1) z).1).0) en in
@@ -540,37 +455,27 @@ module _ {V : Type 0} (k : Meaning V) (x : Inputs) where
       let l = left a in
       let l2 = l.width in
       let l3 = l.long in
-      let l4 = l.out in
-      let l5 = l.out_long in
-      let deep_is = q.deep_is in
-      let cells = q.cells_are in
-      let names = q.names in
-      let shallow = q.shallow in
-      let room = q.room in
       ready_with q still (d - 1) from' base f n' (162 * (d - 1)) (depth (rd (d - 1) from').0) (places (rd (d - 1) from').0) (weight k.width (rd (d - 1) from').0)
       near (omega arith) (omega arith) pp (ap (λ (s : RowStack V). s.width) rows_same ∙ l2) (ap (λ (s : RowStack V). length s.cells.now) rows_same ∙ l3) (omega arith) (omega arith) q.below (omega arith) long
 
-  pub yes_ready : (flags still : List Bool) (f : Frame) (base d from next here : ℕ) (m n : Machine V) (out : Output) (c' : Cursors) (first : Bool) → ReadyOne k x flags f base d from m → Some If ≡ expression_at (shown x.program.now).block from
+  pub yes_ready : {flags still : List Bool} {f : Frame} {base d from next here : ℕ} {m n : Machine V} {out : Output} {c' : Cursors} {first : Bool} → ReadyOne k x flags f base d from m → Some If ≡ expression_at (shown x.program.now).block from
       → Worked k x flags f base m n next (rd (d - 1) (from + 1)) → Parted k x flags still n.place first n.output out n.cursors c' → here ≡ n.place + 1
       → ReadyOne k x still f base (d - 1) next (machine n.rows out c' here)
-  yes_ready flags still f base d from next here m n out c' first r e a p heres =
-      let fk = forked flags f base d from next m n r e a in
+  yes_ready {flags} {still} {f} {base} {d} {from} {next} {here} {m} {n} {out} {c'} {first} r e a p heres =
+      let fk = forked r e a in
       let en = a.end_is in
-      let pf = fk.places_few in
       let e1 = ap (λ (z : ℕ). depth (rd (d - 1) z).0) en in
       let e3 = ap (λ (z : ℕ). weight k.width (rd (d - 1) z).0) en in
       branch_ready flags still f base d from next next here m n (machine n.rows out c' here) r e a p.long refl p.wrote.grown.top_is p.wrote.grown.room fk.near (omega arith) (omega arith) (omega arith)
 
-  pub no_ready : (flags still : List Bool) (f : Frame) (base d from next second inside here : ℕ) (m n : Machine V) (out : Output) (c' : Cursors) (first : Bool) → ReadyOne k x flags f base d from m → Some If ≡ expression_at (shown x.program.now).block from
+  pub no_ready : {flags still : List Bool} {f : Frame} {base d from next second inside here : ℕ} {m n : Machine V} {out : Output} {c' : Cursors} {first : Bool} → ReadyOne k x flags f base d from m → Some If ≡ expression_at (shown x.program.now).block from
       → Worked k x flags f base m n next (rd (d - 1) (from + 1)) → Parted k x flags still n.place first n.output out n.cursors c'
       → second ≡ (rd (d - 1) next).1 → inside ≡ places (rd (d - 1) next).0 → here ≡ n.place + 1 + inside
       → ReadyOne k x still f base (d - 1) second (machine n.rows out c' here)
-  no_ready flags still f base d from next second inside here m n out c' first r e a p seconds ins heres =
-      let fk = forked flags f base d from next m n r e a in
-      let ns = fk.near_second in
+  no_ready {flags} {still} {f} {base} {d} {from} {next} {second} {inside} {here} {m} {n} {out} {c'} {first} r e a p seconds ins heres =
+      let fk = forked r e a in
       let en = a.end_is in
       let sc : second ≡ (rd (d - 1) (rd (d - 1) (from + 1)).1).1 = seconds ∙ ap (λ (z : ℕ). (rd (d - 1) z).1) en in
-      let pf = fk.places_few in
       let e1 = ap (λ (z : ℕ). depth (rd (d - 1) z).0) sc in
       let e2 = ap (λ (z : ℕ). places (rd (d - 1) z).0) seconds in
       let e3 = ap (λ (z : ℕ). weight k.width (rd (d - 1) z).0) sc in

@@ -151,7 +151,6 @@ below_later b v h l e = record { rows = λ i lt. let k = h.rows i lt in omega ar
 pub below_longer : {f f' : Frame} {a w : ℕ} (b v : ℕ) → Below f a w → Longer f f' a → a + w ≤ b → v ≡ w → Below f' b v
 below_longer {f} {f'} {a} {w} b v h lo l e = record {
   rows = λ i lt.
-      let c = lo.count in
       ⊎_elim
       (λ (n : i < f.count). let o = lo.old i n in let k = h.rows i n in omega arith)
       (λ (n : f.count ≤ i). let q : i ≡ f.count = omega arith in let o = ap (λ (j : ℕ). get_or f'.rows j 0) q ∙ lo.new in omega arith)
@@ -170,8 +169,6 @@ module _ {V : Type 0} (k : Meaning V) (g : Given V) where
   framed_longer {f} {f'} {s} {t} {b} {env} x fr lo h ln e =
       let d : Field V = everywhere k.own in
       let all = length_push env x in
-      let c = fr.count_is in
-      let c' = ln.count in
       let old = framed_kept fr lo h in
       record {
         count_is = omega arith;

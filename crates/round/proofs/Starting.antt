@@ -89,11 +89,7 @@ module _ {V : Type 0} (k : Meaning V) (x : Inputs) (fits : suits k (shown x.prog
       → Worked k x flags f 0 (machine rows out c 0) n end (unfolded_in p d from) → Ended n out
   ended rows out c f flags n end wide cells len room a =
       let l = light in
-      let la = a.light in
-      let t = a.wrote.grown.top_is in
       let r = a.wrote.grown.room in
-      let kl = a.kept.long in
-      let kw = a.kept.width in
       record { long = omega arith; short = omega arith; room = omega arith; cells = omega arith; wide = omega arith; same = r }
 
   all_set : (n j : ℕ) → j < n → get_or (replicate n true) j false ≡ true
@@ -113,17 +109,12 @@ module _ {V : Type 0} (k : Meaning V) (x : Inputs) (fits : suits k (shown x.prog
       → GivesOut k x v final.len out.bytes.now final.bytes.now
   run_out rows out c f flags n end v final number wide cells len room none all numbers begins a reads same bytes front =
       let e = ended rows out c f flags n end wide cells len room a in
-      let e1 = e.long in
-      let e2 = e.short in
-      let e3 = e.room in
       let e4 = e.same in
       let e5 = e.wide in
       record {
         fits = omega arith;
         means = λ g gi.
             let framed : Framed k g f rows [] = record { count_is = none; rows = λ i h. absurd (omega arith) } in
-            let hm = gi.held.many in
-            let sf = x.slots.now.few in
             let flagged : Flags g (λ z. true) flags = record { is = λ j s h. ap (λ (l : List Bool). get_or l j false) all ∙ all_set 16 j (omega arith) } in
             let A = a.means g [] (λ z. true) gi framed flagged (begins g gi) in
             let run : Expr = run_of p in
@@ -156,7 +147,6 @@ gives_of k lawful x g bytes s = record {
   readings = s.readings_are;
   held = s.held;
   trees = λ j d h.
-      let m = s.held.many in
       let t = loaded_tree s.held j d (omega arith) in
       let few : places (run_of x.program.now) ≤ 65536 = let a = places_few (run_of x.program.now) in let b = (run_within x.program.now).size in omega arith in
       subst (λ (rs : List (Rec _)). Readable k (slot_tree k.width x.bytes.now x.slots.now j) rs) t.2
