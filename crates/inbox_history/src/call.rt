@@ -25,7 +25,7 @@ pub enum Answer {
     Length(Option<usize>),
 }
 
-// Two conversions: a put and a read answer different things, and are refused alike.
+// Two conversions: one for any T that turns into an answer would need two more, of what T is.
 
 impl From<Result<(), Refusal>> for Answer {
     ghost from_gives = { λ put answer. MatchResult put (λ _. answer ≡ Done) (λ refusal. answer ≡ Refused refusal) };

@@ -60,6 +60,7 @@ impl Counts {
     }
 }
 
+// By hand: no derive prints eleven counts as a line.
 impl fmt::Display for Counts {
     fn fmt<W: fmt::Write>(&self, f: &mut fmt::Formatter<W>) -> fmt::Result {
         write!(

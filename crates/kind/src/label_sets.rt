@@ -67,6 +67,7 @@ impl Kind for LabelSets {
         LabelSet::from_be_bytes(bytes)
     }
 
+    // As in the other kind: the bytes are of another integer, and std has no trait of these.
     fn write(v: LabelSet, out: &mut [u8]) {
         out[..Self::WIDTH].copy_from_slice(&v.to_be_bytes());
     }

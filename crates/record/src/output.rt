@@ -20,6 +20,8 @@ impl<'a> Output<'a> {
         self.len += 1;
     }
 
+    // No conversion of a type: it goes behind given bytes, and a clause says so.
+
     /// Puts a number in two bytes. An inner function: the caller knows that there is room, and that they hold the number.
     pub fn pair(&mut self, n: usize)
         requires room { self.old.len + 2 ≤ length self.old.bytes.now }

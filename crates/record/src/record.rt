@@ -38,6 +38,8 @@ pub enum Body {
     Exchange,
 }
 
+// No conversion of a type: it is at an offset of given bytes, and a clause says which.
+
 /// The number in the two bytes at `at`. An inner function: the caller knows that they are there.
 pub fn pair(bytes: &[u8], at: usize) -> usize
     requires { at + 2 ≤ length bytes.now }

@@ -60,6 +60,7 @@ pub fn skip_parts(program: &Program, count: usize, at: usize, depth: usize) -> (
 {
     let mut end = at;
     let mut places = 0;
+    // A loop that counts no index: a fold over two values is no plainer.
     for _ in 0..count {
         let (next, inside) = skip(program, end, depth);
         end = next;

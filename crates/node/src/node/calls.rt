@@ -77,7 +77,7 @@ impl<K: Kind, I: Inbox> Node<K, I> {
         ensures promise { Promise K.Kind.meaning (state I.Inbox.meaning self.old) (delivery link.now message.now) [] (state I.Inbox.meaning self.new) }
     {
         let sender = self.check_arriving(link, message)?;
-        // An array and a length, which last for this call.
+        // An array and a length: there is no heap, and both last for this call.
         let mut item = [0; LONGEST_ITEM];
         let n = join(link, message, &mut item);
         self.inbox.put(sender, &item[..n])?;

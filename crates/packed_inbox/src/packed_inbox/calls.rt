@@ -56,15 +56,13 @@ impl<'a> Inbox for PackedInbox<'a> {
 
     fn read(&self, sender: u16, buffer: &mut [u8]) -> Result<Option<usize>, Refusal> {
         check_buffer(buffer.len())?;
-        match self.find(sender) {
-            Some(at) => {
-                let from = self.offset(at);
-                let len = self.table[at].len as usize;
-                self.memory.read(from, len, buffer);
-                Ok(Some(len))
-            }
-            None => Ok(None),
-        }
+        let Some(at) = self.find(sender) else {
+            return Ok(None);
+        };
+        let from = self.offset(at);
+        let len = self.table[at].len as usize;
+        self.memory.read(from, len, buffer);
+        Ok(Some(len))
     }
 
     fn passing(&mut self)

@@ -50,10 +50,11 @@ impl Inbox for SlotInbox {
 
     fn read(&self, sender: u16, buffer: &mut [u8]) -> Result<Option<usize>, Refusal> {
         check_buffer(buffer.len())?;
-        match self.find(sender) {
-            Some(slot) => Ok(Some(slot.read(buffer))),
-            None => Ok(None),
-        }
+        // No `map`: with a closure that writes to the buffer the proof did not close.
+        let Some(slot) = self.find(sender) else {
+            return Ok(None);
+        };
+        Ok(Some(slot.read(buffer)))
     }
 
     fn passing(&mut self) {

@@ -42,8 +42,8 @@ returns-in_err-check_buffer c =
     let k = read_refused (contents c.args.self.now) c.args.sender c.args.buffer.now p.0 (sym c.check_buffer.ensures ∙ c.in_err-check_buffer.was ∙ ap (λ (e : Refusal). Err e) (sym p.2)) in
     record { value = p.1 ∙ k.0; after = k.1 }
 
-pub returns-in-Some : goal.returns-in-Some
-returns-in-Some c =
+pub returns : goal.returns
+returns c =
     let p = c.args.self.now in
     let at = c.in-Some.at in
     let w = in_rows p c.args.sender at c.in-Some.ensures in
@@ -59,5 +59,5 @@ returns-in-Some c =
       after = c.read.ensures.after ∙ (λ i. sym x i ++ drop (sym l i) buffer) ∙ k.1;
     }
 
-pub returns-in-None : goal.returns-in-None
-returns-in-None c = let k = read_taken (contents c.args.self.now) c.args.sender c.args.buffer.now None c.in-None.ensures.none (sym c.check_buffer.ensures ∙ c.in_ok-check_buffer.was) in record { value = k.0; after = k.1 }
+pub returns-in_default : goal.returns-in_default
+returns-in_default c = let k = read_taken (contents c.args.self.now) c.args.sender c.args.buffer.now None c.in_default.ensures.none (sym c.check_buffer.ensures ∙ c.in_ok-check_buffer.was) in record { value = k.0; after = k.1 }

@@ -16,8 +16,8 @@ returns-in_err-check_buffer c =
     let k = read_refused (contents c.args.self.now) c.args.sender c.args.buffer.now p.0 (sym c.check_buffer.ensures ∙ c.in_err-check_buffer.was ∙ ap (λ (e : Refusal). Err e) (sym p.2)) in
     record { value = p.1 ∙ k.0; after = k.1 }
 
-pub returns-in-Some : goal.returns-in-Some
-returns-in-Some c =
+pub returns : goal.returns
+returns c =
     let p = c.args.self.now in
     let buffer = c.args.buffer.now in
     let s = c.args.sender in
@@ -30,10 +30,10 @@ returns-in-Some c =
       after = c.read.ensures.after ∙ ap (λ n. x ++ drop n buffer) l ∙ k.1;
     }
 
-pub returns-in-None : goal.returns-in-None
-returns-in-None c =
+pub returns-in_default : goal.returns-in_default
+returns-in_default c =
     let p = c.args.self.now in
     let s = c.args.sender in
-    let f : bytes_of (gathered p.slots) s ≡ None = bytes_found (taken p.slots) s ∙ sym (ap (option_map (λ (y : Slot). (slot_item y).bytes)) c.in-None.ensures) in
+    let f : bytes_of (gathered p.slots) s ≡ None = bytes_found (taken p.slots) s ∙ sym (ap (option_map (λ (y : Slot). (slot_item y).bytes)) c.in_default.ensures) in
     let k = read_taken (contents p) s c.args.buffer.now None f (sym c.check_buffer.ensures ∙ c.in_ok-check_buffer.was) in
     record { value = k.0; after = k.1 }
