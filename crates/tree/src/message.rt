@@ -20,16 +20,16 @@ pub fn read<K: Kind>(program: &Program, node: u16, message: &[u8]) -> Result<u16
     ProgramFor::<K>::of(program)?;
     let sender = read_header(number, node, message)?;
     let (at, depth) = run_start(program);
-    let from = Stand {
+    let mut here = Stand {
         at,
         place: 0,
         position: HEADER_LENGTH,
     };
-    let end = Walk { program, message }.walk::<K>(depth, from)?;
-    if end.position != message.len() {
+    Walk { program, message }.walk::<K>(depth, &mut here)?;
+    if here.position != message.len() {
         return Err(Refusal {
             cause: Cause::MessageLeftover,
-            position: end.position,
+            position: here.position,
         });
     }
     Ok(sender)

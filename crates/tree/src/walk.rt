@@ -34,122 +34,112 @@ pub(crate) struct Stand {
 }
 
 impl Walk<'_> {
-    // Reads the records that are due for the expression at `from`: where the expression ends, the place behind it, and
-    // the position behind the records.
+    // Reads the records that are due for the expression at `here`, and moves `here` to where the expression ends, to the place
+    // behind it, and to the position behind the records. One stand is handed down, so that no call copies it.
     #[cycle(branch_finish_walk_walk_parts)]
-    pub(crate) fn walk<K: Kind>(&self, depth: usize, from: Stand) -> Result<Stand, Refusal>
-        requires near { from.at ≤ length (shown self.now.program.now).block + 17 }
-        requires few { from.place + places (unfolded_in self.now.program.now depth from.at).0 ≤ 4096 }
-        requires inside { from.position ≤ length self.now.message.now }
-        ensures is { mapped stand result ≡ walked K.Kind.meaning self.now.message.now (unfolded_in self.now.program.now depth from.at) from.place from.position }
-        ensures within { IfOk result (λ x. x.position ≤ length self.now.message.now) }
+    pub(crate) fn walk<K: Kind>(&self, depth: usize, here: &mut Stand) -> Result<(), Refusal>
+        requires near { here.old.at ≤ length (shown self.now.program.now).block + 17 }
+        requires few { here.old.place + places (unfolded_in self.now.program.now depth here.old.at).0 ≤ 4096 }
+        requires inside { here.old.position ≤ length self.now.message.now }
+        ensures is { mapped (λ _. stand here.new) result ≡ walked K.Kind.meaning self.now.message.now (unfolded_in self.now.program.now depth here.old.at) here.old.place here.old.position }
+        ensures within { IfOk result (λ _. here.new.position ≤ length self.now.message.now) }
     {
         if depth == 0 {
-            return Ok(from);
+            return Ok(());
         }
-        let Some(e) = expression_at(self.program, from.at) else {
-            return Ok(from);
+        let Some(e) = expression_at(self.program, here.at) else {
+            return Ok(());
         };
         if let Expression::If = e {
-            return self.branch::<K>(depth, from);
+            return self.branch::<K>(depth, here);
         }
-        let at = e.parts_start(from.at, self.program.width());
+        here.at = e.parts_start(here.at, self.program.width());
         let count = count_parts(self.program, e);
-        let end = self.walk_parts::<K>(count, depth - 1, Stand { at, ..from })?;
-        self.finish::<K>(e, depth - 1, end)
+        self.walk_parts::<K>(count, depth - 1, here)?;
+        self.finish::<K>(e, depth - 1, here)
     }
 
     // The same of `count` expressions in a row. By recursion, as the rules are: a loop would have to say what was read so far
     // in their words.
     #[cycle(branch_finish_walk_walk_parts)]
-    fn walk_parts<K: Kind>(&self, count: usize, depth: usize, from: Stand) -> Result<Stand, Refusal>
-        requires near { from.at ≤ length (shown self.now.program.now).block + 17 }
-        requires few { from.place + places_all (listed (unfolded_in self.now.program.now depth) count from.at).0 ≤ 4096 }
-        requires inside { from.position ≤ length self.now.message.now }
-        ensures is { mapped stand result ≡ walked_parts K.Kind.meaning self.now.message.now (unfolded_in self.now.program.now depth) count from.at from.place from.position }
-        ensures within { IfOk result (λ x. x.position ≤ length self.now.message.now) }
+    fn walk_parts<K: Kind>(
+        &self,
+        count: usize,
+        depth: usize,
+        here: &mut Stand,
+    ) -> Result<(), Refusal>
+        requires near { here.old.at ≤ length (shown self.now.program.now).block + 17 }
+        requires few { here.old.place + places_all (listed (unfolded_in self.now.program.now depth) count here.old.at).0 ≤ 4096 }
+        requires inside { here.old.position ≤ length self.now.message.now }
+        ensures is { mapped (λ _. stand here.new) result ≡ walked_parts K.Kind.meaning self.now.message.now (unfolded_in self.now.program.now depth) count here.old.at here.old.place here.old.position }
+        ensures within { IfOk result (λ _. here.new.position ≤ length self.now.message.now) }
     {
         if count == 0 {
-            return Ok(from);
+            return Ok(());
         }
-        let next = self.walk::<K>(depth, from)?;
-        self.walk_parts::<K>(count - 1, depth, next)
+        self.walk::<K>(depth, here)?;
+        self.walk_parts::<K>(count - 1, depth, here)
     }
 
-    // What comes behind the parts of an expression, which end at `end`: its record, or the body that it calls.
+    // What comes behind the parts of an expression, which end at `here`: its record, or the body that it calls.
     #[cycle(branch_finish_walk_walk_parts)]
-    fn finish<K: Kind>(&self, e: Expression, depth: usize, end: Stand) -> Result<Stand, Refusal>
-        requires few { end.place + (body_places (rows self.now.program.now) (unfolded_in self.now.program.now depth) e + own_places e) ≤ 4096 }
-        requires inside { end.position ≤ length self.now.message.now }
-        ensures is { mapped stand result ≡ finished K.Kind.meaning self.now.message.now (rows self.now.program.now) (unfolded_in self.now.program.now depth) e end.at end.place end.position }
-        ensures within { IfOk result (λ x. x.position ≤ length self.now.message.now) }
+    fn finish<K: Kind>(&self, e: Expression, depth: usize, here: &mut Stand) -> Result<(), Refusal>
+        requires few { here.old.place + (body_places (rows self.now.program.now) (unfolded_in self.now.program.now depth) e + own_places e) ≤ 4096 }
+        requires inside { here.old.position ≤ length self.now.message.now }
+        ensures is { mapped (λ _. stand here.new) result ≡ finished K.Kind.meaning self.now.message.now (rows self.now.program.now) (unfolded_in self.now.program.now depth) e here.old.at here.old.place here.old.position }
+        ensures within { IfOk result (λ _. here.new.position ≤ length self.now.message.now) }
     {
         match e {
             Expression::Exchange | Expression::Share => {
                 let (_, position) = due_record::<K>(
                     Body::Exchange,
-                    end.place,
+                    here.place,
                     self.message,
-                    end.position,
+                    here.position,
                 )?;
-                Ok(Stand {
-                    place: end.place + 1,
-                    position,
-                    ..end
-                })
+                here.place += 1;
+                here.position = position;
+                Ok(())
             }
             Expression::Call(n) => {
-                let at = self.program.function(n).start;
-                let past = self.walk::<K>(depth, Stand { at, ..end })?;
-                Ok(Stand { at: end.at, ..past })
+                let end = here.at;
+                here.at = self.program.function(n).start;
+                self.walk::<K>(depth, here)?;
+                here.at = end;
+                Ok(())
             }
-            _ => Ok(end),
+            _ => Ok(()),
         }
     }
 
     // An if: its condition, its choice, and the branch that was chosen. The places of the other branch are passed over.
     #[cycle(branch_finish_walk_walk_parts)]
-    fn branch<K: Kind>(&self, depth: usize, from: Stand) -> Result<Stand, Refusal>
-        requires near { from.at ≤ length (shown self.now.program.now).block + 17 }
-        requires few { from.place + places (unfolded_in self.now.program.now depth from.at).0 ≤ 4096 }
-        requires inside { from.position ≤ length self.now.message.now }
+    fn branch<K: Kind>(&self, depth: usize, here: &mut Stand) -> Result<(), Refusal>
+        requires near { here.old.at ≤ length (shown self.now.program.now).block + 17 }
+        requires few { here.old.place + places (unfolded_in self.now.program.now depth here.old.at).0 ≤ 4096 }
+        requires inside { here.old.position ≤ length self.now.message.now }
         requires deep { 1 ≤ depth }
-        requires step { Some Expression.If ≡ expression_at (shown self.now.program.now).block from.at }
-        ensures is { mapped stand result ≡ walked K.Kind.meaning self.now.message.now (unfolded_in self.now.program.now depth from.at) from.place from.position }
-        ensures within { IfOk result (λ x. x.position ≤ length self.now.message.now) }
+        requires step { Some Expression.If ≡ expression_at (shown self.now.program.now).block here.old.at }
+        ensures is { mapped (λ _. stand here.new) result ≡ walked K.Kind.meaning self.now.message.now (unfolded_in self.now.program.now depth here.old.at) here.old.place here.old.position }
+        ensures within { IfOk result (λ _. here.new.position ≤ length self.now.message.now) }
     {
-        let condition = Stand {
-            at: from.at + 1,
-            ..from
-        };
-        let behind = self.walk::<K>(depth - 1, condition)?;
-        let (yes, position) = due_record::<K>(
-            Body::Choice,
-            behind.place,
-            self.message,
-            behind.position,
-        )?;
-        let first = Stand {
-            place: behind.place + 1,
-            position,
-            ..behind
-        };
+        here.at += 1;
+        self.walk::<K>(depth - 1, here)?;
+        let choice = here.place;
+        let (yes, position) = due_record::<K>(Body::Choice, choice, self.message, here.position)?;
+        here.place = choice + 1;
+        here.position = position;
         if yes {
-            let past = self.walk::<K>(depth - 1, first)?;
-            let (at, skipped) = skip(self.program, past.at, depth - 1);
-            Ok(Stand {
-                at,
-                place: past.place + skipped,
-                ..past
-            })
+            self.walk::<K>(depth - 1, here)?;
+            let (at, second) = skip(self.program, here.at, depth - 1);
+            here.at = at;
+            here.place += second;
+            Ok(())
         } else {
-            let (at, skipped) = skip(self.program, first.at, depth - 1);
-            let second = Stand {
-                at,
-                place: first.place + skipped,
-                ..first
-            };
-            self.walk::<K>(depth - 1, second)
+            let (at, first) = skip(self.program, here.at, depth - 1);
+            here.at = at;
+            here.place += first;
+            self.walk::<K>(depth - 1, here)
         }
     }
 }

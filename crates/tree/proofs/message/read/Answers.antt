@@ -5,11 +5,11 @@ use Rattle.tree.proofs.message.read.Goals as goal
 pub returns-in_err-sender-clause-trips : goal.returns-in_err-sender-clause-trips
 returns-in_err-sender-clause-trips g c = round_trips g.K.Kind.meaning g.met.K.Kind.lawful c.args.program.now c.args.node c.args.message.now c.number-number.result c.number-number.ensures c.number-number.type_inv (λ i. omega (arith, (c.type_inv.message i).fits))
 
-pub returns-in_err-end-clause-trips : goal.returns-in_err-end-clause-trips
-returns-in_err-end-clause-trips g c = round_trips g.K.Kind.meaning g.met.K.Kind.lawful c.args.program.now c.args.node c.args.message.now c.number-number.result c.number-number.ensures c.number-number.type_inv (λ i. omega (arith, (c.type_inv.message i).fits))
+pub returns-in_err-walk-clause-trips : goal.returns-in_err-walk-clause-trips
+returns-in_err-walk-clause-trips g c = round_trips g.K.Kind.meaning g.met.K.Kind.lawful c.args.program.now c.args.node c.args.message.now c.number-number.result c.number-number.ensures c.number-number.type_inv (λ i. omega (arith, (c.type_inv.message i).fits))
 
-pub returns-then-end-message-clause-trips : goal.returns-then-end-message-clause-trips
-returns-then-end-message-clause-trips g c = round_trips g.K.Kind.meaning g.met.K.Kind.lawful c.args.program.now c.args.node c.args.message.now c.number-number.result c.number-number.ensures c.number-number.type_inv (λ i. omega (arith, (c.type_inv.message i).fits))
+pub returns-then-here-message-clause-trips : goal.returns-then-here-message-clause-trips
+returns-then-here-message-clause-trips g c = round_trips g.K.Kind.meaning g.met.K.Kind.lawful c.args.program.now c.args.node c.args.message.now c.number-number.result c.number-number.ensures c.number-number.type_inv (λ i. omega (arith, (c.type_inv.message i).fits))
 
 pub returns-clause-trips : goal.returns-clause-trips
 returns-clause-trips g c = round_trips g.K.Kind.meaning g.met.K.Kind.lawful c.args.program.now c.args.node c.args.message.now c.number-number.result c.number-number.ensures c.number-number.type_inv (λ i. omega (arith, (c.type_inv.message i).fits))
