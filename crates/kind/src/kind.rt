@@ -7,7 +7,7 @@ ghost use Rattle.kind.specs.Kind.{Meaning, Lawful};
 /// what every kind shows of it. Each constant has a ghost member of its name, which contracts can cite.
 pub trait Kind {
     /// The values of the kind.
-    type Value: Copy + Eq;
+    type Value: Copy;
 
     ghost meaning: { Meaning Self.Value };
 
@@ -40,6 +40,10 @@ pub trait Kind {
     fn truth(v: Self::Value) -> bool
         ensures { result ≡ meaning.truth v };
 
+    /// Whether two values are the same value.
+    fn same(a: Self::Value, b: Self::Value) -> bool
+        ensures { result ≡ meaning.same a b };
+
     /// The operator of that number on two values. Every number has an answer; a program names only those below `OPERATORS`.
     // By number, and no enum: each kind has operators of its own, and a program names one by a byte.
     fn apply(operator: u8, a: Self::Value, b: Self::Value) -> Self::Value
@@ -68,6 +72,4 @@ pub trait Kind {
     ghost own_is: { OWN ≡ meaning.own };
 
     ghost unknown_is: { UNKNOWN ≡ meaning.unknown };
-
-    ghost same_is: { (a b : Self.Value) → Self.Value.eq a b ≡ meaning.same a b };
 }

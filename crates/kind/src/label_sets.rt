@@ -46,10 +46,12 @@ impl Kind for LabelSets {
 
     ghost unknown_is = { refl };
 
-    ghost same_is = { λ a b. refl };
-
     fn truth(v: LabelSet) -> bool {
         v.truth()
+    }
+
+    fn same(a: LabelSet, b: LabelSet) -> bool {
+        a == b
     }
 
     fn apply(operator: u8, a: LabelSet, b: LabelSet) -> LabelSet {

@@ -1,6 +1,6 @@
 ghost use Rattle.std.specs.Prelude.{refl};
 ghost use Rattle.kind.specs.Numbers.{numbers as meaning_of_numbers};
-ghost use Rattle.kind.specs.NumberLaws.{numbers_lawful, same_by_difference};
+ghost use Rattle.kind.specs.NumberLaws.{numbers_lawful};
 
 use crate::kind::Kind;
 use crate::number::Number;
@@ -46,10 +46,13 @@ impl Kind for Numbers {
 
     ghost unknown_is = { refl };
 
-    ghost same_is = { λ a b. same_by_difference a.value b.value };
-
     fn truth(v: Number) -> bool {
         v.truth()
+    }
+
+    #[tactic(auto, using(crate::specs::NumberLaws::same_by_difference))]
+    fn same(a: Number, b: Number) -> bool {
+        a == b
     }
 
     fn apply(operator: u8, a: Number, b: Number) -> Number {

@@ -45,7 +45,7 @@ fn check_entry<K: Kind>(
             position: at,
         });
     }
-    if v == default {
+    if K::same(v, default) {
         return Err(Refusal {
             cause: Cause::EntryRefused,
             position: at + 2,

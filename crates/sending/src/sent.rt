@@ -23,7 +23,7 @@ fn count_before(node: u16, numbers: &[u16]) -> usize
 fn count_other<K: Kind>(cells: &[K::Value], default: K::Value) -> usize
     ensures { result ≡ count_by (differs K.Kind.meaning default) cells.now }
 {
-    cells.iter().filter(|v| **v != default).count()
+    cells.iter().filter(|v| !K::same(**v, default)).count()
 }
 
 // Puts the entry of a number, if its value differs from the default.
@@ -31,7 +31,7 @@ fn put_other<K: Kind>(output: &mut Output<'_>, number: u16, v: K::Value, default
     requires { output.old.len + (2 + K.Kind.meaning.width) ≤ length output.old.bytes.now }
     ensures { Puts output.old output.new (written_entries K.Kind.meaning (kept_one K.Kind.meaning default number v)) }
 {
-    if v != default {
+    if !K::same(v, default) {
         put_entry::<K>(output, number as usize, v);
     }
 }
