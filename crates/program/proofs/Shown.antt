@@ -6,7 +6,7 @@ use lib.ListN.{length-map, get_or-map}
 use base.Stored.{Coded-set}
 use Rattle.std.specs.List.{AllByRecursion}
 use Rattle.std.proofs.ByRecursion.{All-push, All-get_or}
-use Rattle.std.proofs.lemmas.List.{get_or_append_left, get_or_default}
+use Rattle.std.proofs.lemmas.List.{get_or_append_left, get_or_default, get_or_past}
 use Rattle.std.proofs.lemmas.Bool.Decides.{nat_tests}
 use Rattle.refusal.specs.Outcomes.{Outcome, must, mapped}
 use Rattle.refusal.specs.declared.cause.Cause.TheVariants as cause
@@ -130,6 +130,9 @@ rows_shown p =
 
 pub row_shown : (p : Program) (n : ℕ) → get_or p.outline.functions n no_row ≡ get_or (table_of (shown p).shape.width (shown p).functions) n no_row
 row_shown p n = ap (λ (l : List Function). get_or l n no_row) (rows_shown p)
+
+pub row_past : (p : Program) (n : ℕ) → 32 ≤ n → no_row ≡ get_or (table_of (shown p).shape.width (shown p).functions) n no_row
+row_past p n h = sym (get_or_past p.outline.functions n no_row (omega (arith, p.rows))) ∙ row_shown p n
 
 pub record Within (w : ℕ) (e : Expr) : Type 0 where
   pub size : (sizes_of w e).size ≤ 4096

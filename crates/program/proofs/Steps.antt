@@ -15,6 +15,7 @@ use Rattle.refusal.specs.Outcomes.{Outcome, refuse, after, must}
 use Rattle.refusal.proofs.Outcomes.{after_same, mapped_after}
 use Rattle.program.specs.Expressions.{Expr, Exprs, Unfolded}
 use Rattle.program.specs.Measures.{sizes_of, size_all, depth_all, weight_all, places_all}
+use Rattle.program.specs.Bounds.{Small, SmallSums}
 use Rattle.program.specs.Reading.{decoded, readable, available, part_count, binds, callee, Parts, arguments, built, no_function, parts, called_function, expr_by, expr}
 use Rattle.program.specs.Sizing.{row, with_part, no_sums, combined, totals, sized, summed, part_sums, flagged, Marked}
 
@@ -230,3 +231,9 @@ marked_part refuses w b flags n h i le =
     let l = length-take n b in
     let in_b : i + w ≤ length b = omega arith in
     h i in_b ∙ ap refuses (sym (ap (take w) (sym (between_is b i n)) ∙ take-take w (n - i) (drop i b) (omega arith)))
+
+pub small_more : {s : Sizes} {m n : ℕ} → Small s m → m ≤ n → Small s n
+small_more h le = record { size = omega arith; depth = omega arith; weight = omega arith; places = h.places }
+
+pub small_sums_more : {s : Sums} {m n : ℕ} → SmallSums s m → m ≤ n → SmallSums s n
+small_sums_more h le = record { all = small_more h.all le; branches = h.branches }

@@ -1,15 +1,15 @@
 -- What the check found is the verdict. Assumes nothing.
-use Rattle.std.proofs.Common.{◌≡◌, ℕ, List, [], Ok, Err, sym, ap, ◌∙◌, subst}
+use Rattle.std.proofs.Common.{◌≡◌, ℕ, true, ◌&&◌, eqb, List, [], Ok, Err, sym, refl, ap, ◌∙◌, subst, eq-eqb}
 use Rattle.refusal.specs.declared.refused.Refusal.{Refusal}
 use Rattle.refusal.specs.Outcomes.{Outcome, after, InLayer}
-use Rattle.refusal.proofs.Outcomes.{mapped_ok, mapped_err, ok_same, after_is}
+use Rattle.refusal.proofs.Outcomes.{after_ok, mapped_ok, mapped_err, ok_same, after_is}
 use Rattle.kind.specs.Kind.{Meaning}
 use Rattle.program.specs.declared.program.Program.{Program}
 use Rattle.program.specs.declared.header.Header.{Header}
 use Rattle.program.specs.declared.function.Function.{Function}
 use Rattle.program.specs.declared.shape.KindShape.{KindShape}
 use Rattle.program.specs.Expressions.{Unfolded}
-use Rattle.program.specs.Verdict.{header, functions, Checked, read_block, none_refused, shape_of, refused_by, verdict}
+use Rattle.program.specs.Verdict.{header, functions, Checked, read_block, none_refused, shape_of, refused_by, suits, verdict}
 use Rattle.program.specs.Sizing.{table_of, tabled, outline_of, outlined}
 use Rattle.program.specs.Programs.{block_of, shown}
 use Rattle.program.proofs.Accepted.{keeps_block}
@@ -57,3 +57,12 @@ module _ {V : Type 0} (k : Meaning V) (b : List ℕ) (s : KindShape) (is : s ≡
 
 pub refused_in_layer : {V : Type 0} (k : Meaning V) (b : List ℕ) (x : Refusal) → Err x ≡ verdict k b → InLayer {A = Checked} 1 (Err x)
 refused_in_layer k b x e = subst (InLayer 1) (sym e) (layer_block (refused_by k) (shape_of k) b)
+
+-- an accepted program is for the kind that it was checked for
+pub shown_suits : {V : Type 0} (k : Meaning V) (b : List ℕ) (p : Program) → Ok (shown p) ≡ verdict k b → suits k (shown p) ≡ true
+shown_suits k b p e =
+    let h = after_ok (header (shape_of k) b) _ (shown p) (sym e) in
+    let f = after_ok (functions (refused_by k) (shape_of k) h.0.sensors b h.0.functions 10 []) _ (shown p) h.2 in
+    let s : shape_of k ≡ (shown p).shape = ap (λ (c : Checked). c.shape) (ok_same _ _ f.2) in
+    subst (λ (t : KindShape). eqb t.number k.number && (eqb t.width k.width && eqb t.operators k.operators) ≡ true) s
+    (rw (eq-eqb k.number k.number refl, eq-eqb k.width k.width refl, eq-eqb k.operators k.operators refl))

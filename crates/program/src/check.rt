@@ -34,7 +34,7 @@ fn refused_literals<K: Kind>(width: u8, block: &Buffer<1024>) -> [bool; 1024]
 {
     let bytes = block.as_slice();
     let mut flags = [false; 1024];
-    for (at, flag) in flags.iter_mut().enumerate() {
+    for (at, flag) in flags[..bytes.len()].iter_mut().enumerate() {
         if let Some(literal) = bytes.get(at..at + width as usize) {
             *flag = K::read(literal).is_none();
         }

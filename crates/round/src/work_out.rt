@@ -147,7 +147,7 @@ fn give<K: Kind, I: Inbox>(
     requires output { most_bytes ≤ length output.old }
     ensures { GivesRound K.Kind.meaning program.now.program.now node (I.Inbox.meaning inbox.now).items last.now readings.now result.0 result.1 output.old output.new }
 {
-    let slots = load::<K, I>(program, node, inbox, bytes);
+    let slots = load::<K, I>(program.program(), node, inbox, bytes);
     let own = own_tree::<K>(program, node, last);
     let cells = &mut values[..WORKING_VALUES];
     run_on::<K>(program, node, &slots, bytes, own, readings, cells, output)

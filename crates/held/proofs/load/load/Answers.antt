@@ -15,9 +15,9 @@ free : (g : Over) (c : In-Some g) → c.loop-sender.slots.count < 16
 free g c = sofar_free (g.I.Inbox.lawful c.args.inbox.now) c.loop-sender.invariant.sofar (found g c)
 
 -- what is kept of the item that was read
-keeps : (g : Over) (c : After-checked_add g) → Keeps g.K.Kind.meaning c.args.program.now.program.now c.args.node c.read_item-size.new.bytes c.loop-sender.slots c.in-Some.sender c.read_item-size.result c.if-counts.slots
+keeps : (g : Over) (c : After-checked_add g) → Keeps g.K.Kind.meaning c.args.program.now c.args.node c.read_item-size.new.bytes c.loop-sender.slots c.in-Some.sender c.read_item-size.result c.if-counts.slots
 keeps g c =
-    let p = c.args.program.now.program.now in
+    let p = c.args.program.now in
     let bytes = c.read_item-size.new.bytes in
     let sender = c.in-Some.sender in
     let s = c.loop-sender.slots in

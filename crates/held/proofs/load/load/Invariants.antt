@@ -5,7 +5,7 @@ use Rattle.held.proofs.load.load.Given as goal
 abbrev pub invariant-loop-sender : goal.invariant-loop-sender
 invariant-loop-sender g l = record {
   long : length l.bytes ≡ length l.initial.bytes;
-  sofar : Sofar g.K.Kind.meaning l.program.program.now l.node (g.I.Inbox.meaning l.inbox).items l.bytes l.slots l.from;
+  sofar : Sofar g.K.Kind.meaning l.program l.node (g.I.Inbox.meaning l.inbox).items l.bytes l.slots l.from;
 }
 
 abbrev pub decreases-loop-sender : goal.decreases-loop-sender
