@@ -1,5 +1,6 @@
 -- Bytes of two digits each, as the library decodes them. Assumes nothing.
-use Rattle.std.proofs.Common.{◌≡◌, ℕ, ◌+◌, ◌*◌, ◌%◌, ◌==◌, Bool, true, false, cond, List, [], ◌∷◌, length, get_or, Some, None, Option, Result, Ok, Err, sym, refl, ap, ◌∙◌, ◌≢◌, arith}
+use Rattle.std.proofs.Common.{◌≡◌, ℕ, zero, suc, ◌+◌, ◌<◌, ◌*◌, ◌%◌, ◌==◌, Bool, true, false, cond, List, [], ◌∷◌, length, get_or, Some, None, Option, Result, Ok, Err, sym, refl, ap, ◌∙◌, ◌≢◌, arith}
+use Rattle.std.specs.Char.{is_ascii_hexdigit}
 use Rattle.std.specs.Result.{result_ok}
 use Rattle.std.proofs.lemmas.Bool.Decides.{nat_tests}
 use Rattle.std.proofs.lemmas.Bool.{eqb-true}
@@ -49,14 +50,28 @@ by_parity text true e = sym (odd text (eqb-true _ _ e))
 by_parity text false e = pairs_are 0 text
 
 -- what the library decodes is the bytes of the pairs
-pub read_pairs : (text bytes : List ℕ) → decode_of text ≡ Ok bytes → pairs text ≡ Some bytes
-read_pairs text bytes e = sym (by_parity text _ refl) ∙ ap result_ok e
-
-pub refused_pairs : (text : List ℕ) (why : FromHexError) → decode_of text ≡ Err why → pairs text ≡ None
-refused_pairs text why e = sym (by_parity text _ refl) ∙ ap result_ok e
+pub decoded : (word : List ℕ) → pairs word ≡ result_ok (decode_of word)
+decoded word = sym (by_parity word _ refl)
 
 -- a word that is no dash is read as pairs
 pub in_pairs : (word : List ℕ) → (length word ≡ 1 → get_or word 0 0 ≢ 45) → written_bytes word ≡ pairs word
 in_pairs [] h = refl
 in_pairs (b ∷ []) h = let n = h refl in grind (arith, nat_tests)
 in_pairs (a ∷ (b ∷ rest)) h = refl
+
+-- a word with a byte that is no digit has none
+no_value : (c : ℕ) → is_ascii_hexdigit c ≡ false → digit_value c ≡ None
+no_value c h = grind (arith, nat_tests)
+
+no_low : (x : Option ℕ) → with_digits x None ≡ None
+no_low None = refl
+no_low (Some h) = refl
+
+pub bad_digit : (i : ℕ) (word : List ℕ) → i < length word → is_ascii_hexdigit (get_or word i 0) ≡ false → pairs word ≡ None
+bad_digit i [] h bad = absurd (omega arith)
+bad_digit i (a ∷ []) h bad = refl
+bad_digit zero (a ∷ (b ∷ rest)) h bad = ap (λ x. with_byte (with_digits x (digit_value b)) (pairs rest)) (no_value a bad)
+bad_digit (suc zero) (a ∷ (b ∷ rest)) h bad = ap (λ x. with_byte (with_digits (digit_value a) x) (pairs rest)) (no_value b bad) ∙ ap (λ x. with_byte x (pairs rest)) (no_low (digit_value a))
+bad_digit (suc (suc i)) (a ∷ (b ∷ rest)) h bad =
+    ap (with_byte (with_digits (digit_value a) (digit_value b))) (bad_digit i rest (omega arith) bad)
+    ∙ none_after (with_digits (digit_value a) (digit_value b))

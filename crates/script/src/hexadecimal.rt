@@ -1,9 +1,25 @@
 ghost use Rattle.std.specs.Prelude.{◌≡◌, ◌⊎◌, Some, None, IfOk, IfErr, vec_items};
 ghost use Rattle.hex.specs.declared.error.FromHexError.TheVariants.{OutOfMemory};
-ghost use Rattle.script.specs.Script.{written_bytes};
+ghost use Rattle.script.specs.Script.{pairs as pairs_of, written_bytes};
 
 use hex::FromHexError;
 use std::alloc::Global;
+
+// Bytes of two digits each.
+#[tactic(auto, using(crate::proofs::Pairs::decoded))]
+fn pairs(heap: Global, word: &[u8]) -> Result<Vec<u8>, FromHexError>
+    ensures read { IfOk result (λ v. pairs_of word.now ≡ Some (vec_items v)) }
+    ensures refused { IfErr result (λ e. (e ≡ OutOfMemory) ⊎ (pairs_of word.now ≡ None)) }
+{
+    // The digits are judged first: `decode` asks for memory before it reads one.
+    match word.iter().position(|b| !b.is_ascii_hexdigit()) {
+        Some(index) if word.len() % 2 == 0 => Err(FromHexError::InvalidHexCharacter {
+            c: char::from(word[index]),
+            index,
+        }),
+        _ => hex::decode(heap, word),
+    }
+}
 
 /// The bytes of a word in hexadecimal, in either case, `-` for none.
 pub fn bytes(heap: Global, word: &[u8]) -> Result<Vec<u8>, FromHexError>
@@ -12,6 +28,6 @@ pub fn bytes(heap: Global, word: &[u8]) -> Result<Vec<u8>, FromHexError>
 {
     match word {
         [b'-'] => Ok(Vec::new(heap)),
-        _ => hex::decode(heap, word),
+        _ => pairs(heap, word),
     }
 }
