@@ -60,6 +60,8 @@ impl SlotInbox {
         ensures { contents self.new ≡ holding (contents self.old) (with_item (contents self.old).items (new_item sender item.now)) }
     {
         let vacant = self.vacant().unwrap();
-        self.slots[vacant] = Some(Slot::new(sender, item));
+        let slot = &mut self.slots[vacant];
+        *slot = Some(Slot::new(sender));
+        slot::renew(slot, item);
     }
 }
