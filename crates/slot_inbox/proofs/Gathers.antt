@@ -1,16 +1,16 @@
 -- Items in slots.
-use Rattle.std.proofs.Common.{◌≡◌, ℕ, zero, suc, ◌+◌, ◌<◌, ◌≤◌, Bool, true, false, cond, eqb, ltb, leb, min, List, [], ◌∷◌, ◌++◌, map, filter, find, length, get_or, take, drop, set, Some, None, Option, position, sym, refl, ap, ◌∙◌, subst, ⊎_elim, arith}
-use Rattle.std.specs.List.{fold, reduce, position_or_len}
+use Rattle.std.proofs.Common.{◌≡◌, ℕ, zero, suc, ◌+◌, ◌*◌, ◌<◌, ◌≤◌, Bool, true, false, cond, eqb, ltb, leb, min, List, [], ◌∷◌, ◌++◌, map, filter, find, length, get_or, take, drop, set, Some, None, Option, position, sym, refl, ap, ◌∙◌, subst, ⊎_elim, arith}
+use Rattle.std.specs.List.{AllByRecursion, fold, reduce, position_or_len}
 use Rattle.std.proofs.lemmas.List.Quantifiers.{position-Some}
 use Rattle.std.specs.Option.{option_map, is_some, is_none}
 use Rattle.std.proofs.lemmas.Bool.{lt-ltb, le-ltb, ne_eqb, eq-eqb, eqb-false, eqb-true, cases_Bool, true≢false, cases_lt, ltb-true, ltb-false, lt-leb, le-leb}
 use Rattle.std.proofs.lemmas.List.{set-set, set-get_or, length-set, get_or-set_same, take_all, drop_all, append-nil}
 use Rattle.std.proofs.lemmas.Option.{none-some, same_Some}
 use Rattle.inbox.specs.Contents.{lasts, Item, Contents, Rising, Lawful, bytes_held, holding, longest_item}
-use Rattle.inbox.specs.Calls.{holds, without, with_item, next_sender, bytes_of, aged, older}
-use Rattle.slot_inbox.specs.Slots.{taken, by_sender, gathered, slot_item, Apart, Distinct, aged_slot, is_of}
+use Rattle.inbox.specs.Calls.{holds, without, with_item, next_sender, bytes_of, new_item, aged, older}
+use Rattle.slot_inbox.specs.Slots.{taken, by_sender, gathered, slot_item, Apart, Distinct, aged_slot, renewed_slot, is_of}
 use Rattle.slot_inbox.specs.declared.slot.Slot.{Slot}
-use Rattle.inbox.proofs.Items.{Apart as Others, apart_not_held, holds_apart, without_apart, rising_with_item, aged_with, lawful_without, lawful_with_item}
+use Rattle.inbox.proofs.Items.{Apart as Others, apart_not_held, holds_apart, without_apart, rising_with_item, aged_with, lawful_without, lawful_with_item, all_of_with, bytes_held_le}
 use Rattle.inbox.proofs.Aging.{all_aged, lawful_aged}
 
 -- ---- what each reading gives of a list with one item more
@@ -124,14 +124,18 @@ filled_slot (Some r ∷ ss) (suc i) x h e a =
     let p = split_holds x.sender (gathered ss) (slot_item r) a in
     ap (λ l. with_item l (slot_item r)) (filled_slot ss i x (omega arith) e p.1) ∙ with_comm (gathered ss) (slot_item x) (slot_item r) (λ z. p.0 (sym z))
 
+-- the item of a slot beside those of the others
+put_back : (ss : List (Option Slot)) (i : ℕ) (x : Slot) → i < length ss → get_or ss i None ≡ Some x → Distinct ss → gathered ss ≡ with_item (gathered (set ss i None)) (slot_item x)
+put_back ss i x h e k =
+    let back : set (set ss i None) i (Some x) ≡ ss = set-set ss i None (Some x) ∙ ap (set ss i) (sym e) ∙ set-get_or ss i None in
+    let l : i < length (set ss i None) = simp length-set h in
+    sym (ap gathered back) ∙ filled_slot (set ss i None) i x l (get_or-set_same ss i None None h) (gone_at ss i x e k)
+
 -- a slot is emptied
 let_go : (ss : List (Option Slot)) (i : ℕ) (x : Slot) → i < length ss → get_or ss i None ≡ Some x → Distinct ss → gathered (set ss i None) ≡ without (gathered ss) x.sender
 let_go ss i x h e k =
     let low = gone_at ss i x e k in
-    let back : set (set ss i None) i (Some x) ≡ ss = set-set ss i None (Some x) ∙ ap (set ss i) (sym e) ∙ set-get_or ss i None in
-    let l : i < length (set ss i None) = simp length-set h in
-    let was = sym (ap gathered back) ∙ filled_slot (set ss i None) i x l (get_or-set_same ss i None None h) low in
-    sym (ap (λ l. without l x.sender) was ∙ without_with (gathered (set ss i None)) (slot_item x) (apart_not_held x.sender (gathered (set ss i None)) low))
+    sym (ap (λ l. without l x.sender) (put_back ss i x h e k) ∙ without_with (gathered (set ss i None)) (slot_item x) (apart_not_held x.sender (gathered (set ss i None)) low))
 
 distinct_let_go : (ss : List (Option Slot)) (i : ℕ) → Distinct ss → Distinct (set ss i None)
 distinct_let_go [] i k = tt
@@ -221,6 +225,35 @@ fills b ss i s x same k h e apart number few fits young room =
       };
     }
 
+-- an item is put in place of its sender's earlier one
+renews : (b : Contents) (ss : List (Option Slot)) (i : ℕ) (o : Slot) (x : List ℕ) → Kept b ss → i < length ss → get_or ss i None ≡ Some o → length x ≤ longest_item → b.byte_limit ≡ longest_item * b.sender_limit
+    → Becomes b (set ss i (renewed_slot x (Some o))) (with_item (without (gathered ss) o.sender) (new_item o.sender x))
+renews b ss i o x k h e short r =
+    let rest = gathered (set ss i None) in
+    let was = put_back ss i o h e k.distinct in
+    let gone = empties b ss i o k h e in
+    let number = all_of_with (λ j. j.sender < 65536) rest (slot_item o) (subst (AllByRecursion (λ j. j.sender < 65536)) was k.lawful.numbers) in
+    let one : length (gathered ss) ≡ suc (length rest) = ap length was ∙ length_with rest (slot_item o) in
+    let most = k.lawful.few in
+    let few : length rest < b.sender_limit = omega (arith, one) in
+    let room : bytes_held rest + length x ≤ b.byte_limit = omega (arith, r, few, bytes_held_le rest gone.kept.lawful.fits) in
+    let put = fills b (set ss i None) i (record { sender = o.sender; age = 0; bytes = record { items = x } }) (new_item o.sender x) refl gone.kept (simp length-set h) (get_or-set_same ss i None None h)
+    (gone_at ss i o e k.distinct) number few short (lt-ltb 0 b.life k.lawful.lives) room in
+    let same = set-set ss i None (renewed_slot x (Some o)) in
+    record {
+      items = sym (ap gathered same) ∙ put.items ∙ ap (λ is. with_item is (new_item o.sender x)) gone.items;
+      kept = subst (Kept b) same put.kept;
+    }
+
+kept_in : (b : Contents) (ss : List (Option Slot)) (i : ℕ) (o : Option Slot) (x : List ℕ) → Kept b ss → i < length ss → get_or ss i None ≡ o → length x ≤ longest_item → b.byte_limit ≡ longest_item * b.sender_limit
+    → Kept b (set ss i (renewed_slot x o))
+kept_in b ss i None x k h e short r = subst (Kept b) (sym (ap (set ss i) (sym e) ∙ set-get_or ss i None)) k
+kept_in b ss i (Some o) x k h e short r = (renews b ss i o x k h e short r).kept
+
+pub kept_renewed : (b : Contents) (ss : List (Option Slot)) (i : ℕ) (x : List ℕ) → Kept b ss → i < length ss → length x ≤ longest_item → b.byte_limit ≡ longest_item * b.sender_limit
+    → Kept b (set ss i (renewed_slot x (get_or ss i None)))
+kept_renewed b ss i x k h short r = kept_in b ss i (get_or ss i None) x k h refl short r
+
 -- ---- what is read of the slots
 pub length_by_sender : (ss : List Slot) → length (by_sender ss) ≡ length ss
 length_by_sender [] = refl
@@ -286,6 +319,11 @@ own_slot ss s i (Some x) h e t = record { slot = x; in_range = h; is = e; own = 
 
 pub in_slot : (ss : List (Option Slot)) (s i : ℕ) → position (is_of s) ss ≡ Some i → InSlot ss s i
 in_slot ss s i e = let k = position-Some (is_of s) ss i None e in own_slot ss s i (get_or ss i None) k.0 refl k.1
+
+pub renewed_in : (b : Contents) (ss : List (Option Slot)) (s i : ℕ) (x : List ℕ) → Kept b ss → InSlot ss s i → length x ≤ longest_item → b.byte_limit ≡ longest_item * b.sender_limit
+    → gathered (set ss i (renewed_slot x (get_or ss i None))) ≡ with_item (without (gathered ss) s) (new_item s x)
+renewed_in b ss s i x k p short r =
+    ap (λ o. gathered (set ss i (renewed_slot x o))) p.is ∙ (renews b ss i p.slot x k p.in_range p.is short r).items ∙ ap (λ t. with_item (without (gathered ss) t) (new_item t x)) p.own
 
 pub held_in : (ss : List (Option Slot)) (s i : ℕ) → InSlot ss s i → holds (gathered ss) s ≡ true
 held_in ss s i k = ap (holds (gathered ss)) (sym k.own) ∙ held_at ss i k.slot k.is

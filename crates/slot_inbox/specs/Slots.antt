@@ -43,3 +43,8 @@ older_slot s = record s { age = s.age + 1 }
 abbrev pub aged_slot : ℕ → Option Slot → Option Slot
 aged_slot life None = None
 aged_slot life (Some s) = cond (lasts life (s.age + 1)) (Some (older_slot s)) None
+
+-- a slot with this item at age 0 in place of its own
+abbrev pub renewed_slot : List ℕ → Option Slot → Option Slot
+renewed_slot x None = None
+renewed_slot x (Some s) = Some (record { sender = s.sender; age = 0; bytes = record { items = x } })

@@ -1,7 +1,7 @@
-ghost use Rattle.std.specs.Prelude.{◌≡◌, ◌≤◌, ◌++◌, length, drop};
+ghost use Rattle.std.specs.Prelude.{◌≡◌, ◌≤◌, [], ◌++◌, length, drop};
 ghost use Rattle.inbox.specs.Contents.{longest_item};
 ghost use Rattle.inbox.specs.Calls.{new_item};
-ghost use Rattle.slot_inbox.specs.Slots.{slot_item, is_of as is_held, aged_slot};
+ghost use Rattle.slot_inbox.specs.Slots.{slot_item, is_of as is_held, aged_slot, renewed_slot};
 
 use arrayvec::ArrayVec;
 use inbox::limits::{LONGEST_ITEM, Limits};
@@ -15,16 +15,14 @@ pub struct Slot {
 }
 
 impl Slot {
-    /// A slot that holds the item at age 0.
-    pub fn new(sender: u16, item: &[u8]) -> Slot
-        requires { length item.now ≤ longest_item }
-        ensures { slot_item result ≡ new_item sender item.now }
+    /// A slot that holds an empty item at age 0.
+    pub fn new(sender: u16) -> Slot
+        ensures { slot_item result ≡ new_item sender [] }
     {
-        let bytes = ArrayVec::try_from(item).unwrap();
         Slot {
             sender,
             age: 0,
-            bytes,
+            bytes: ArrayVec::new(),
         }
     }
 
@@ -49,6 +47,18 @@ pub(crate) fn age(slot: &mut Option<Slot>, limits: Limits)
             Some(age) => held.age = age,
             None => *slot = None,
         }
+    }
+}
+
+/// Puts the item at age 0 in place of the slot's own, where that lies.
+pub(crate) fn renew(slot: &mut Option<Slot>, item: &[u8])
+    requires { length item.now ≤ longest_item }
+    ensures { slot.new ≡ renewed_slot item.now slot.old }
+{
+    if let Some(held) = slot {
+        held.age = 0;
+        held.bytes.clear();
+        held.bytes.try_extend_from_slice(item).unwrap();
     }
 }
 

@@ -15,17 +15,20 @@ impl Inbox for SlotInbox {
     ghost lawful = { slot_inbox_lawful };
 
     fn put(&mut self, sender: u16, item: &[u8]) -> Result<(), Refusal> {
+        let place = self.place(sender);
         // Each sender has room for the longest item, whatever the others have.
         let room = Room {
-            held: self.place(sender).is_some(),
+            held: place.is_some(),
             count: self.count(),
             sender_limit: self.limits.sender_limit(),
             others: 0,
             byte_limit: LONGEST_ITEM,
         };
         room.check(item.len())?;
-        let _ = self.remove(sender);
-        self.insert(sender, item);
+        match place {
+            Some(at) => self.renew(at, item),
+            None => self.insert(sender, item),
+        }
         Ok(())
     }
 

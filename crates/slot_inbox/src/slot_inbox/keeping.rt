@@ -1,6 +1,6 @@
-ghost use Rattle.std.specs.Prelude.{◌≡◌, ◌*◌, ◌<◌, ◌≤◌, ◌==◌, false, length, find, position, is_none, option_copied};
+ghost use Rattle.std.specs.Prelude.{◌≡◌, ℕ, ◌*◌, ◌<◌, ◌≤◌, ◌==◌, false, Some, length, find, position, is_none, option_copied};
 ghost use Rattle.inbox.specs.Contents.{longest_item, most_senders, holding, empty_contents};
-ghost use Rattle.inbox.specs.Calls.{holds, with_item, new_item};
+ghost use Rattle.inbox.specs.Calls.{holds, without, with_item, new_item};
 ghost use Rattle.slot_inbox.specs.Slots.{taken, is_of};
 ghost use Rattle.slot_inbox.specs.SlotInbox.{contents};
 
@@ -60,6 +60,18 @@ impl SlotInbox {
         ensures { contents self.new ≡ holding (contents self.old) (with_item (contents self.old).items (new_item sender item.now)) }
     {
         let vacant = self.vacant().unwrap();
-        self.slots[vacant] = Some(Slot::new(sender, item));
+        let slot = &mut self.slots[vacant];
+        *slot = Some(Slot::new(sender));
+        slot::renew(slot, item);
+    }
+
+    // Puts an item in place of its sender's earlier one, which is there.
+    pub(super) fn renew(&mut self, at: usize, item: &[u8])
+        requires row { at < most_senders }
+        requires short { length item.now ≤ longest_item }
+        ensures { (s : ℕ) → position (is_of s) self.old.slots ≡ Some at
+            → contents self.new ≡ holding (contents self.old) (with_item (without (contents self.old).items s) (new_item s item.now)) }
+    {
+        slot::renew(&mut self.slots[at], item);
     }
 }
