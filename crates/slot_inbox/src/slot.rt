@@ -28,7 +28,7 @@ impl Slot {
 
     /// Copies the item to the buffer's front, and answers its length.
     pub fn read(&self, buffer: &mut [u8]) -> usize
-        requires { longest_item ≤ length buffer.old }
+        requires { length (slot_item self.now).bytes ≤ length buffer.old }
         ensures len { result ≡ length (slot_item self.now).bytes }
         ensures after { buffer.new ≡ (slot_item self.now).bytes ++ drop result buffer.old }
     {

@@ -1,14 +1,36 @@
-use Rattle.std.proofs.Common.{◌≡◌, ℕ, ◌++◌, drop, Some, None, Ok, Err, sym, ap, ◌∙◌}
+use Rattle.std.proofs.Common.{◌≡◌, ℕ, ◌≤◌, true, false, eqb, List, [], ◌∷◌, ◌++◌, length, drop, Some, None, Ok, Err, sym, ap, ◌∙◌, subst, ⊎_elim, arith}
+use Rattle.std.proofs.lemmas.Bool.{cases_Bool}
+use Rattle.std.proofs.lemmas.Option.{none-some, same_Some}
 use Rattle.std.proofs.lemmas.Result.{err_from_is_err_and}
+use Rattle.std.specs.List.{AllByRecursion}
 use Rattle.std.specs.Option.{option_map}
 use Rattle.refusal.specs.declared.refused.Refusal.{Refusal}
+use Rattle.inbox.specs.Contents.{Item, longest_item}
 use Rattle.inbox.specs.Calls.{bytes_of}
-use Rattle.inbox.proofs.Items.{read_refused, read_taken}
+use Rattle.inbox.proofs.Items.{any_fits, read_refused, read_taken}
 use Rattle.slot_inbox.specs.Slots.{taken, gathered, slot_item}
-use Rattle.slot_inbox.specs.SlotInbox.{contents}
+use Rattle.slot_inbox.specs.SlotInbox.{contents, slot_inbox_lawful}
 use Rattle.slot_inbox.specs.declared.slot.Slot.{Slot}
 use Rattle.slot_inbox.proofs.Gathers.{bytes_found}
 use Rattle.slot_inbox.proofs.slot_inbox.calls.SlotInboxInbox.read.Goals as goal
+
+-- an item that is found is no longer than the longest
+found_fits : (is : List Item) (s : ℕ) (x : List ℕ) → AllByRecursion (λ (i : Item). length i.bytes ≤ longest_item) is → bytes_of is s ≡ Some x → length x ≤ longest_item
+found_fits [] s x h e = absurd (none-some x e)
+found_fits (i ∷ is) s x h e = ⊎_elim
+    (λ (t : eqb i.sender s ≡ true). subst (λ y. length y ≤ longest_item) (same_Some i.bytes x (rw t at e)) h.0)
+    (λ (t : eqb i.sender s ≡ false). found_fits is s x h.1 (rw t at e))
+    (cases_Bool (eqb i.sender s))
+
+pub read-requires : goal.read-requires
+read-requires c =
+    let p = c.args.self.now in
+    let s = c.args.sender in
+    let x = (slot_item c.in-Some.slot.now).bytes in
+    let f : bytes_of (gathered p.slots) s ≡ Some x = bytes_found (taken p.slots) s ∙ sym (ap (option_map (λ (y : Slot). (slot_item y).bytes)) c.in-Some.ensures) in
+    let l = found_fits (gathered p.slots) s x (slot_inbox_lawful p).fits f in
+    let b = any_fits (length c.args.buffer.now) (sym c.check_buffer.ensures ∙ c.in_ok-check_buffer.was) in
+    omega arith
 
 pub returns-in_err-check_buffer : goal.returns-in_err-check_buffer
 returns-in_err-check_buffer c =
