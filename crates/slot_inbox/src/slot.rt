@@ -57,8 +57,11 @@ pub(crate) fn renew(slot: &mut Option<Slot>, item: &[u8])
 {
     if let Some(held) = slot {
         held.age = 0;
-        held.bytes.clear();
-        held.bytes.try_extend_from_slice(item).unwrap();
+        // No `clear`: it writes blanks where the item's bytes go.
+        held.bytes.truncate(item.len());
+        let (front, rest) = item.split_at(held.bytes.len());
+        held.bytes.as_mut_slice().copy_from_slice(front);
+        held.bytes.try_extend_from_slice(rest).unwrap();
     }
 }
 
